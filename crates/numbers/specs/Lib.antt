@@ -1,0 +1,4 @@
+pub mod Faults
+pub mod Integers
+pub mod Arithmetic
+pub mod Booleans

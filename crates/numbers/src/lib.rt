@@ -1,0 +1,11 @@
+// Integers and booleans that carry VAL's error values, and the operations on them.
+mod arithmetic;
+mod boolean;
+mod fault;
+mod integer;
+mod number;
+pub use boolean::Boolean;
+pub use fault::BasicFault;
+pub use fault::Fault;
+pub use integer::Integer;
+pub use number::Number;
