@@ -7,7 +7,7 @@ use native.Mathlib.Omega.{arith}
 use borrow.Author.Differences.{ints}
 use Rattle.numbers.specs.declared.number.Number.{Number}
 use Rattle.numbers.specs.declared.fault.Fault.{Fault}
-use Rattle.numbers.specs.declared.fault.Fault.the-variants.{PosOver, NegOver}
+use Rattle.numbers.specs.declared.fault.Fault.the-variants.{Undef, MissElt, PosOver, NegOver, Unknown, ZeroDivide}
 use Rattle.numbers.specs.declared.integer.Integer.{Integer}
 use Rattle.numbers.specs.declared.integer.Integer.the-variants.{Proper, Error}
 use Rattle.numbers.specs.Faults.{same-fault}
@@ -47,3 +47,13 @@ is-error (Error f) = true
 abbrev pub is-fault : Fault → Integer → Bool
 is-fault g (Proper n) = false
 is-fault g (Error f) = same-fault f g
+
+-- To undef, miss_elt and zero_divide no rule applies: an operation on one of them gives undef.
+abbrev pub barred : Integer → Bool
+barred (Proper n) = false
+barred (Error Undef) = true
+barred (Error MissElt) = true
+barred (Error PosOver) = false
+barred (Error NegOver) = false
+barred (Error Unknown) = false
+barred (Error ZeroDivide) = true

@@ -1,5 +1,5 @@
 ghost use mathlib.Core.Path.{_≡_};
-ghost use Rattle.numbers.specs.Integers.{is-error, is-fault, judged};
+ghost use Rattle.numbers.specs.Integers.{barred, is-error, is-fault, judged};
 use crate::fault::Fault;
 use crate::number::Number;
 
@@ -44,6 +44,19 @@ impl Integer {
         match self {
             Integer::Proper(_) => false,
             Integer::Error(own) => own.code() == fault.code(),
+        }
+    }
+
+    // Whether this is undef, miss_elt or zero_divide, to which no rule of arithmetic applies.
+    pub fn is_barred(self) -> bool
+        ensures { λ r. ⌜ r ≡ barred self ⌝ }
+    {
+        match self {
+            Integer::Proper(_) => false,
+            Integer::Error(fault) => match fault {
+                Fault::Undef | Fault::MissElt | Fault::ZeroDivide => true,
+                Fault::PosOver | Fault::NegOver | Fault::Unknown => false,
+            },
         }
     }
 }

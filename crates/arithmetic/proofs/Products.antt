@@ -9,12 +9,12 @@ use lib.Signed.{quotZ, remZ, mag-rem, _≤ℤ_}
 use mir.Syntax.{w64}
 use mir.Val.{SFits}
 use Rattle.std.proofs.shelf.Bits.{mul-le}
 use Rattle.numbers.specs.declared.number.Number.{Number}
 use mathlib.Core.Bool.{false}
 use Rattle.std.proofs.shelf.Tests.{cond-false}
 use Rattle.numbers.specs.declared.integer.Integer.the-variants.{Proper}
 use Rattle.numbers.specs.Integers.{greatest, least, judged}
-use Rattle.numbers.specs.Arithmetic.{is-zero, modulus}
+use Rattle.arithmetic.specs.Arithmetic.{is-zero, modulus}
 
 fits-by-sign : (x y : ℤ) → least ≤ℤ x → x ≤ℤ greatest → least ≤ℤ y → y ≤ℤ greatest → SFits w64 (x *ℤ y)
 fits-by-sign (pos a) (pos b) h i j k = omega (arith, ints, mul-le a b 2147483647 2147483647 (omega (arith, ints)) (omega (arith, ints)))

@@ -4,9 +4,9 @@ use mir.Syntax.{w64}
 use mir.Val.{SFits}
 use lib.IntN.{pos, natAbs}
 use Rattle.std.proofs.shelf.Signed.{toZ-ofZ}
-use Rattle.numbers.specs.Arithmetic.{magnitude}
+use Rattle.arithmetic.specs.Arithmetic.{magnitude}
 use Rattle.numbers.specs.Integers.{judged}
-use Rattle.numbers.proofs.integer.Integer.abs.Needs as need
+use Rattle.arithmetic.proofs.abs.Needs as need
 
 pub returns-in-Proper : need.returns-in-Proper
 returns-in-Proper c =

@@ -3,22 +3,12 @@
 use mathlib.Core.Bool.{Bool, true, false, not, cond, _||_}
 use lib.IntN.{ℤ, pos, negsuc, negℤ, natAbs, _+ℤ_, _-ℤ_, _*ℤ_}
 use lib.Signed.{ltZ, quotZ}
 use Rattle.numbers.specs.declared.number.Number.{Number}
 use Rattle.numbers.specs.declared.fault.Fault.{Fault}
 use Rattle.numbers.specs.declared.fault.Fault.the-variants.{Undef, MissElt, PosOver, NegOver, Unknown, ZeroDivide}
 use Rattle.numbers.specs.declared.integer.Integer.{Integer}
 use Rattle.numbers.specs.declared.integer.Integer.the-variants.{Proper, Error}
-use Rattle.numbers.specs.Integers.{judged, is-fault}
-
--- To undef, miss_elt and zero_divide no rule applies: an operation on one of them gives undef.
-abbrev pub barred : Integer → Bool
-barred (Proper n) = false
-barred (Error Undef) = true
-barred (Error MissElt) = true
-barred (Error PosOver) = false
-barred (Error NegOver) = false
-barred (Error Unknown) = false
-barred (Error ZeroDivide) = true
+use Rattle.numbers.specs.Integers.{judged, is-fault, barred}
 
 -- A proper number below 0, equal to 0, above 0.
 abbrev pub negative : Integer → Bool

@@ -1,17 +1,16 @@
 -- Comparisons of two integers.
 use mathlib.Core.Bool.{Bool, true, false, not, cond, _||_}
 use lib.Signed.{ltZ}
 use Rattle.numbers.specs.declared.number.Number.{Number}
 use Rattle.numbers.specs.declared.fault.Fault.the-variants.{PosOver, NegOver, Unknown}
 use Rattle.numbers.specs.declared.fault.BasicFault.the-variants.{Undef}
 use Rattle.numbers.specs.declared.integer.Integer.{Integer}
 use Rattle.numbers.specs.declared.integer.Integer.the-variants.{Proper, Error}
 use Rattle.numbers.specs.declared.boolean.Boolean.{Boolean}
 use Rattle.numbers.specs.declared.boolean.Boolean.the-variants as truth
-use Rattle.numbers.specs.declared.comparison.Comparison.{Comparison}
-use Rattle.numbers.specs.declared.comparison.Comparison.the-variants.{Less, Equal, Greater, Undecided}
-use Rattle.numbers.specs.Integers.{is-fault}
-use Rattle.numbers.specs.Arithmetic.{barred}
+use Rattle.ordering.specs.declared.comparison.Comparison.{Comparison}
+use Rattle.ordering.specs.declared.comparison.Comparison.the-variants.{Less, Equal, Greater, Undecided}
+use Rattle.numbers.specs.Integers.{is-fault, barred}
 
 -- 5a. J < pos_over, undecided where J is pos_over or unknown.
 abbrev pub to-pos-over : Integer → Comparison
