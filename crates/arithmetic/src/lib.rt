@@ -1,10 +1,13 @@
 // Arithmetic on integers that carry error values. Rules are named as in specs/Arithmetic.antt.
 ghost use mathlib.Core.Path.{_≡_};
 ghost use mathlib.Core.Bool.{true, _||_};
-ghost use Rattle.numbers.specs.Integers.{is-error};
+ghost use lib.IntN.{pos, natAbs, _+ℤ_, _-ℤ_, _*ℤ_};
+ghost use lib.Signed.{quotZ};
+ghost use Rattle.numbers.specs.Integers.{is-error, judged};
 ghost use Rattle.arithmetic.specs.Arithmetic.{negative, is-zero, positive, pos-over-plus, neg-over-plus, sum, negation, difference, times-pos-over, times-neg-over, times-unknown, product, quotient, modulus, magnitude};
 use numbers::Fault;
 use numbers::Integer;
+use numbers::Number;
 
 const UNDEF: Integer = Integer::Error(Fault::Undef);
 const UNKNOWN: Integer = Integer::Error(Fault::Unknown);
@@ -17,7 +20,7 @@ pub fn plus(j: Integer, k: Integer) -> Integer
 {
     match j {
         Integer::Proper(m) => match k {
-            Integer::Proper(n) => Integer::judge(m.wide() + n.wide()),
+            Integer::Proper(n) => exact_sum(m, n),
             Integer::Error(_) => sum_with_error(j, k),
         },
         Integer::Error(_) => sum_with_error(j, k),
@@ -52,7 +55,7 @@ pub fn times(j: Integer, k: Integer) -> Integer
 {
     match j {
         Integer::Proper(m) => match k {
-            Integer::Proper(n) => Integer::judge(m.wide() * n.wide()),
+            Integer::Proper(n) => exact_product(m, n),
             Integer::Error(_) => product_with_error(j, k),
         },
         Integer::Error(_) => product_with_error(j, k),
@@ -87,7 +90,7 @@ pub fn modulo(j: Integer, k: Integer) -> Integer
                 if n.get() == 0 {
                     return Integer::Error(Fault::ZeroDivide);
                 }
-                Integer::judge(m.wide() % n.wide())
+                exact_remainder(m, n)
             }
             Integer::Error(_) => UNDEF,
         },
@@ -100,13 +103,39 @@ pub fn abs(j: Integer) -> Integer
     ensures { λ r. ⌜ r ≡ magnitude j ⌝ }
 {
     match j {
-        Integer::Proper(n) => Integer::judge(n.wide().abs()),
+        Integer::Proper(n) => exact_magnitude(n),
         Integer::Error(fault) => match fault {
             Fault::PosOver | Fault::NegOver => POS_OVER,
             Fault::Unknown => UNKNOWN,
             Fault::Undef | Fault::MissElt | Fault::ZeroDivide => UNDEF,
         },
     }
+}
+
+fn exact_sum(m: Number, n: Number) -> Integer
+    ensures { λ r. ⌜ r ≡ judged (m .value +ℤ n .value) ⌝ }
+{
+    Integer::judge(m.wide() + n.wide())
+}
+
+fn exact_product(m: Number, n: Number) -> Integer
+    ensures { λ r. ⌜ r ≡ judged (m .value *ℤ n .value) ⌝ }
+{
+    Integer::judge(m.wide() * n.wide())
+}
+
+// What a division by a number other than 0 leaves.
+fn exact_remainder(m: Number, n: Number) -> Integer
+    requires { ⌜ (n .value ≡ pos 0 → ⊥) ⌝ }
+    ensures { λ r. ⌜ r ≡ judged (m .value -ℤ n .value *ℤ quotZ (m .value) (n .value)) ⌝ }
+{
+    Integer::judge(m.wide() % n.wide())
+}
+
+fn exact_magnitude(n: Number) -> Integer
+    ensures { λ r. ⌜ r ≡ judged (pos (natAbs (n .value))) ⌝ }
+{
+    Integer::judge(n.wide().abs())
 }
 
 // Whether this is a proper number below 0.

@@ -1,4 +1,4 @@
--- Products and quotients of proper numbers.
+-- Sums, products and remainders of proper numbers are exact at 64 bits.
 use mathlib.Core.Path.{_≡_, refl, sym, ap, _∙_}
 use Prim.Native.Nat.{ℕ, zero, suc, _+_, _*_, _/_, _%_, _≤_}
 use native.Mathlib.Nat.{mul-zero, div-add-mod}
@@ -10,11 +10,11 @@ use mir.Syntax.{w64}
 use mir.Val.{SFits}
 use Rattle.std.proofs.shelf.Bits.{mul-le}
 use Rattle.numbers.specs.declared.number.Number.{Number}
-use mathlib.Core.Bool.{false}
-use Rattle.std.proofs.shelf.Tests.{cond-false}
-use Rattle.numbers.specs.declared.integer.Integer.the-variants.{Proper}
-use Rattle.numbers.specs.Integers.{greatest, least, judged}
-use Rattle.arithmetic.specs.Arithmetic.{is-zero, modulus}
+use Rattle.numbers.specs.Integers.{greatest, least}
+
+-- The sum of two proper numbers fits 64 bits.
+pub sum-fits : (m n : Number) → SFits w64 (m .value +ℤ n .value)
+sum-fits m n = omega (arith, ints, m .proper .0, m .proper .1, n .proper .0, n .proper .1)
 
 fits-by-sign : (x y : ℤ) → least ≤ℤ x → x ≤ℤ greatest → least ≤ℤ y → y ≤ℤ greatest → SFits w64 (x *ℤ y)
 fits-by-sign (pos a) (pos b) h i j k = omega (arith, ints, mul-le a b 2147483647 2147483647 (omega (arith, ints)) (omega (arith, ints)))
@@ -47,6 +47,3 @@ rem-fits z d f = record { sfits = omega (arith, mag-rem z d, f .sfits) }
 -- The remainder of two proper numbers fits 64 bits.
 pub remainder-fits : (m n : Number) → SFits w64 (remZ (m .value) (n .value))
 remainder-fits m n = rem-fits (m .value) (n .value) (omega (arith, ints, m .proper .0, m .proper .1))
-
-pub modulus-proper : (m n : Number) → is-zero (Proper n) ≡ false → judged (remZ (m .value) (n .value)) ≡ modulus (Proper m) (Proper n)
-modulus-proper m n e = sym (cond-false (is-zero (Proper n)) _ _ e ∙ ap judged (left-over (m .value) (n .value)))

@@ -1,0 +1,4 @@
+pub mod Grouping
+pub mod Sizing
+pub mod Ranked
+mod Steps

@@ -1,0 +1,4 @@
+pub mod Operators
+pub mod Trees
+pub mod Merged
+pub mod Bundles
