@@ -31,6 +31,6 @@ impl Number {
     pub fn wide(self) -> i64
         ensures { λ r. ⌜ r ≡ self .value ⌝ }
     {
-        self.value as i64
+        i64::from(self.value)
     }
 }
