@@ -1,3 +1,4 @@
 pub mod Faults
 pub mod Integers
 pub mod Booleans
+pub mod Words
