@@ -1,0 +1,5 @@
+mod Tallies
+mod Choosing
+mod Highest
+mod Lowest
+mod Gathering

@@ -1,0 +1,2 @@
+mod SidesLaws
+mod SameAsPlus

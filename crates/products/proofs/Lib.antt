@@ -1,0 +1,5 @@
+mod Factors
+mod Multiplying
+mod Rules
+mod TimesLaws
+mod Listing

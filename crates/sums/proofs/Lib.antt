@@ -1,0 +1,3 @@
+pub mod Notes
+pub mod Exact
+pub mod PlusLaws

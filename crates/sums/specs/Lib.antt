@@ -1,0 +1,2 @@
+pub mod Plus
+pub mod Sums
