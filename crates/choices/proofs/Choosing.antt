@@ -63,16 +63,18 @@ module _ {rank : Integer → ℤ} {start : Integer} {top : ℤ} (r : Ranks rank 
       let y = rank b in
       cond-both (ltZ x y) b a (λ c. rank c ≡ maxZ x y) (λ e. omega (arith, ints, clamps)) (λ e. omega (arith, ints, clamps))
 
-  -- What is chosen has the higher of the two ranks.
-  picks : (a b : Integer) → rank (choose a b) ≡ maxZ (rank a) (rank b)
-  picks a b =
-      cond-both (barred a || barred b) (Error Undef) (by-rank a b) (λ c. rank c ≡ maxZ (rank a) (rank b))
-      (λ e. let t = r .barred-top (Error Undef) refl in
+  top-picks : (a b : Integer) → (barred a || barred b) ≡ true → rank (Error Undef) ≡ maxZ (rank a) (rank b)
+  top-picks a b e =
+      let t = r .barred-top (Error Undef) refl in
       ⊎-elim
       (λ h. omega (arith, ints, clamps, t, r .barred-top a h, r .below-top b))
       (λ h. omega (arith, ints, clamps, t, r .barred-top b h, r .below-top a))
-      (or-cases (barred a) (barred b) e))
-      (λ _. by-rank-picks a b)
+      (or-cases (barred a) (barred b) e)
+
+  -- What is chosen has the higher of the two ranks.
+  picks : (a b : Integer) → rank (choose a b) ≡ maxZ (rank a) (rank b)
+  picks a b =
+      cond-both (barred a || barred b) (Error Undef) (by-rank a b) (λ c. rank c ≡ maxZ (rank a) (rank b)) (top-picks a b) (λ _. by-rank-picks a b)
 
   pub choosing-laws : Laws (choosing rank start)
   choosing-laws = ranked-laws highest (record {
@@ -105,32 +107,36 @@ module _ {rank : Integer → ℤ} {start : Integer} {top : ℤ} (r : Ranks rank 
   undef-stays (p ∷ ps) t e =
       undef-stays ps (choose t (choose start p)) (bars t (choose start p) (or-left (barred t) (barred (choose start p)) (ap barred e)))
 
+  undef-at : (t p : Integer) → barred p ≡ true → choose t (choose start p) ≡ Error Undef
+  undef-at t p h =
+      let q = choose start p in
+      let u = bars start p (or-right (barred start) (barred p) h) in
+      bars t q (or-right (barred t) (barred q) (ap barred u))
+
   undef-comes : (ps : List Integer) (t : Integer) → any barred ps ≡ true → onto t ps ≡ Error Undef
   undef-comes [] t e = absurd (false≢true e)
   undef-comes (p ∷ ps) t e =
-      let q = choose start p in
+      let s = choose t (choose start p) in
       ⊎-elim
-      (λ h. let u = bars start p (or-right (barred start) (barred p) h) in
-      undef-stays ps (choose t q) (bars t q (or-right (barred t) (barred q) (ap barred u))))
-      (λ h. undef-comes ps (choose t q) h)
+      (λ h. undef-stays ps s (undef-at t p h))
+      (λ h. undef-comes ps s h)
       (or-cases (barred p) (any barred ps) e)
 
   -- c outranks the tally and the parts, and is the tally or one of them
   abbrev Best : Integer → List Integer → Integer → Type 0
   Best t ps c = (rank t ≤ℤ rank c) × All (λ p. rank p ≤ℤ rank c) ps × ((c ≡ t) ⊎ Has ps c)
 
+  one-of-all : (t p : Integer) (ps : List Integer) (c : Integer) → (choose t p ≡ t) ⊎ (choose t p ≡ p) → (c ≡ choose t p) ⊎ Has ps c → (c ≡ t) ⊎ Has (p ∷ ps) c
+  one-of-all t p ps c (inl u) (inl e) = inl (e ∙ u)
+  one-of-all t p ps c (inr u) (inl e) = inr (subst (Has (p ∷ ps)) (sym (e ∙ u)) (has-first p ps))
+  one-of-all t p ps c (inl u) (inr h) = inr (has-append-right (p ∷ []) ps c h)
+  one-of-all t p ps c (inr u) (inr h) = inr (has-append-right (p ∷ []) ps c h)
+
   best-first : (t p : Integer) (ps : List Integer) (c : Integer) → barred t ≡ false → barred p ≡ false → Best (choose t p) ps c → Best t (p ∷ ps) c
-  best-first t p ps c h k b = (
-    omega (arith, ints, clamps, picks t p, b .0),
-    (omega (arith, ints, clamps, picks t p, b .0), b .1),
-    ⊎-elim
-        (λ e. ⊎-elim
-        (λ u. inl (e ∙ u))
-        (λ u. inr (subst (Has (p ∷ ps)) (sym (e ∙ u)) (has-first p ps)))
-        (one-of-both t p h k))
-        (λ u. inr (has-append-right (p ∷ []) ps c u))
-        (b .2),
-  )
+  best-first t p ps c h k b =
+      let higher-t : rank t ≤ℤ rank c = omega (arith, ints, clamps, picks t p, b .0) in
+      let higher-p : rank p ≤ℤ rank c = omega (arith, ints, clamps, picks t p, b .0) in
+      (higher-t, (higher-p, b .1), one-of-all t p ps c (one-of-both t p h k) (b .2))
 
   best : (ps : List Integer) (t : Integer) → barred t ≡ false → any barred ps ≡ false → Best t ps (onto t ps)
   best [] t h e = (omega (arith, ints), tt, inl refl)

@@ -32,6 +32,7 @@ M = judged greatest
 abbrev pub three : List Integer
 three = M ∷ (num 1 ∷ (neg 1 ∷ []))
 
+-- One row for each figure: what is computed, and what it is.
 abbrev pub Figures : Type 0
 Figures =
     (sum M (num 1) ≡ Error PosOver)

@@ -6,6 +6,7 @@ use Rattle.products.specs.Times.{times}
 use Rattle.choices.specs.Extremes.{greatest-of, least-of}
 use Rattle.choices.specs.Truths.{all-of, some-of}
 
+-- Each of the six by the meaning of its own definition.
 abbrev pub standard : Merges
 standard = record {
   plus = meaning plus;

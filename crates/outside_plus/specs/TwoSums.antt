@@ -56,6 +56,7 @@ settled t =
     (cond (t .«neg_over») (Error NegOver)
     (judged (t .above +ℤ t .below)))))
 
+-- Plus, by these four.
 abbrev pub two-sums : Definition Integer Sides Integer
 two-sums = record { start = no-parts; tally = one-part; join = together; close = settled }
 

@@ -9,5 +9,6 @@ use Rattle.merging.specs.Operators.{Definition}
 abbrev pub multiplying : (Integer → Integer → Integer) → Definition Integer Integer Integer
 multiplying by = record { start = judged (pos 1); tally = by (judged (pos 1)); join = by; close = λ t. t }
 
+-- Times, by the rules of multiplication.
 abbrev pub times : Definition Integer Integer Integer
 times = multiplying product

@@ -64,5 +64,6 @@ settled t =
     (cond (t .«neg_over») (Error NegOver)
     (judged (t .sum)))))
 
+-- Plus, by these four.
 abbrev pub plus : Definition Integer Sum Integer
 plus = record { start = no-parts; tally = one-part; join = together; close = settled }

@@ -1,0 +1,5 @@
+pub mod Bytes
+pub mod Reading
+pub mod Exactness
+pub mod Skipping
+pub mod Scalars
