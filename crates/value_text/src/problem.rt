@@ -1,3 +1,5 @@
+ghost use mathlib.Core.Path.{_≡_};
+ghost use Rattle.value_text.specs.declared.problem.Problem.the-variants.{Memory};
 use std::alloc::AllocError;
 use std::alloc::Refused;
 use std::fmt;
@@ -15,12 +17,16 @@ pub enum Problem {
 }
 
 pub impl From<AllocError> for Problem as ProblemFromAllocError {
+    ghost converts = { λ _ r. r ≡ Memory };
+
     fn from(_: AllocError) -> Problem {
         Problem::Memory
     }
 }
 
 pub impl<T: Drop> From<Refused<T>> for Problem as ProblemFromRefused {
+    ghost converts = { λ _ r. r ≡ Memory };
+
     fn from(_: Refused<T>) -> Problem {
         Problem::Memory
     }
