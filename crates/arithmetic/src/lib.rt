@@ -10,8 +10,11 @@ use numbers::Integer;
 use numbers::Number;
 
 const UNDEF: Integer = Integer::Error(Fault::Undef);
+
 const UNKNOWN: Integer = Integer::Error(Fault::Unknown);
+
 const POS_OVER: Integer = Integer::Error(Fault::PosOver);
+
 const NEG_OVER: Integer = Integer::Error(Fault::NegOver);
 
 // J + K
@@ -172,14 +175,22 @@ fn is_positive(j: Integer) -> bool
 fn sum_with_pos_over(j: Integer) -> Integer
     ensures { λ r. ⌜ r ≡ pos-over-plus j ⌝ }
 {
-    if is_zero(j) | is_positive(j) | j.is_fault(Fault::PosOver) { POS_OVER } else { UNKNOWN }
+    if is_zero(j) | is_positive(j) | j.is_fault(Fault::PosOver) {
+        POS_OVER
+    } else {
+        UNKNOWN
+    }
 }
 
 // Rule 1b: neg_over + J.
 fn sum_with_neg_over(j: Integer) -> Integer
     ensures { λ r. ⌜ r ≡ neg-over-plus j ⌝ }
 {
-    if is_zero(j) | is_negative(j) | j.is_fault(Fault::NegOver) { NEG_OVER } else { UNKNOWN }
+    if is_zero(j) | is_negative(j) | j.is_fault(Fault::NegOver) {
+        NEG_OVER
+    } else {
+        UNKNOWN
+    }
 }
 
 fn sum_with_error(j: Integer, k: Integer) -> Integer
@@ -227,7 +238,11 @@ fn product_with_neg_over(j: Integer) -> Integer
 fn product_with_unknown(j: Integer) -> Integer
     ensures { λ r. ⌜ r ≡ times-unknown j ⌝ }
 {
-    if is_zero(j) { Integer::judge(0) } else { UNKNOWN }
+    if is_zero(j) {
+        Integer::judge(0)
+    } else {
+        UNKNOWN
+    }
 }
 
 fn product_with_error(j: Integer, k: Integer) -> Integer

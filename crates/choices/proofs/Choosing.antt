@@ -19,7 +19,7 @@ use Rattle.numbers.specs.declared.integer.Integer.the-variants.{Error}
 use Rattle.numbers.specs.Integers.{barred}
 use Rattle.merging.specs.Operators.{Definition, Laws, meaning}
 use Rattle.merging.proofs.Ranked.{ranked-laws, highest, higher}
-use Rattle.parts.specs.Parts.{any}
+use Rattle.merging.specs.Parts.{any}
 use Rattle.choices.specs.Extremes.{Chosen}
 use Rattle.choices.proofs.Tallies.{Tally, unbarred-tally}
 

@@ -9,7 +9,7 @@ use Rattle.numbers.specs.declared.boolean.Boolean.the-variants.{Proper, Error}
 use Rattle.numbers.specs.Booleans.{both, either}
 use Rattle.merging.specs.Operators.{Definition, Laws, meaning}
 use Rattle.merging.proofs.Sizing.{Kept, laws-by}
-use Rattle.parts.specs.Parts.{any, every}
+use Rattle.merging.specs.Parts.{any, every}
 use Rattle.choices.specs.Truths.{all-of, some-of, is-true, unless-error, And-all, Or-some}
 
 -- An operation on truth values, undef where either is an error.

@@ -11,7 +11,7 @@ use Rattle.numbers.specs.declared.integer.Integer.the-variants.{Error}
 use Rattle.numbers.specs.Integers.{barred}
 use Rattle.ordering.specs.Ranking.{max-rank, min-rank, maximum, minimum}
 use Rattle.merging.specs.Operators.{Definition, meaning}
-use Rattle.parts.specs.Parts.{any}
+use Rattle.merging.specs.Parts.{any}
 
 -- Max of no parts is neg_over, which every other part outranks.
 abbrev pub greatest-of : Definition Integer Integer Integer

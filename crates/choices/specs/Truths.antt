@@ -7,7 +7,7 @@ use Rattle.numbers.specs.declared.boolean.Boolean.{Boolean}
 use Rattle.numbers.specs.declared.boolean.Boolean.the-variants.{Proper, Error}
 use Rattle.numbers.specs.Booleans.{both, either, is-error}
 use Rattle.merging.specs.Operators.{Definition, meaning}
-use Rattle.parts.specs.Parts.{any, every}
+use Rattle.merging.specs.Parts.{any, every}
 
 -- And of no parts is true.
 abbrev pub all-of : Definition Boolean Boolean Boolean

@@ -36,7 +36,11 @@ where
     O::Part: Copy,
     O::Closed: Display + Drop,
 {
-    if let (Ok(front), Ok(back), Ok(halves)) = (merge::<O>(parts), merge_backwards::<O>(parts), merge_halves::<O>(parts)) {
+    if let (Ok(front), Ok(back), Ok(halves)) = (
+        merge::<O>(parts),
+        merge_backwards::<O>(parts),
+        merge_halves::<O>(parts),
+    ) {
         show(rt, front, back, halves)
     } else {
         print!(rt, " too many")?;

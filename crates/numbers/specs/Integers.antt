@@ -36,8 +36,8 @@ judged z =
     by-test (ltZ greatest z)
     (λ _. Error PosOver)
     (λ u. by-test (ltZ z least)
-        (λ _. Error NegOver)
-        (λ v. Proper (record { value = z; proper = (not-below z v, not-above z u) })))
+    (λ _. Error NegOver)
+    (λ v. Proper (record { value = z; proper = (not-below z v, not-above z u) })))
 
 abbrev pub is-error : Integer → Bool
 is-error (Proper n) = false

@@ -4,6 +4,7 @@ mod fault;
 mod integer;
 mod number;
 mod words;
+
 pub use boolean::Boolean;
 pub use fault::BasicFault;
 pub use fault::Fault;

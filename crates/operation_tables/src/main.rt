@@ -44,9 +44,31 @@ enum Order {
     AtLeast,
 }
 
-const FAULTS: [Fault; 6] = [Fault::Undef, Fault::MissElt, Fault::PosOver, Fault::NegOver, Fault::Unknown, Fault::ZeroDivide];
+const FAULTS: [Fault; 6] = [
+    Fault::Undef,
+    Fault::MissElt,
+    Fault::PosOver,
+    Fault::NegOver,
+    Fault::Unknown,
+    Fault::ZeroDivide,
+];
 
-const NUMBERS: [i64; 14] = [-2147483647, -2147483646, -46341, -7, -2, -1, 0, 1, 2, 7, 46340, 65536, 2147483646, 2147483647];
+const NUMBERS: [i64; 14] = [
+    -2147483647,
+    -2147483646,
+    -46341,
+    -7,
+    -2,
+    -1,
+    0,
+    1,
+    2,
+    7,
+    46340,
+    65536,
+    2147483646,
+    2147483647,
+];
 
 const TRUTHS: [Boolean; 4] = [
     Boolean::Proper(true),
@@ -153,7 +175,15 @@ fn truths(rt: &LibcRuntime) -> io::Result<()> {
 
 // What lies outside the range is judged, and the number that 32 bits have besides is none.
 fn judged(rt: &LibcRuntime) -> io::Result<()> {
-    for value in [-9223372036854775808, -2147483648, -2147483647, 0, 2147483647, 2147483648, 9223372036854775807] {
+    for value in [
+        -9223372036854775808,
+        -2147483648,
+        -2147483647,
+        0,
+        2147483647,
+        2147483648,
+        9223372036854775807,
+    ] {
         let integer = Integer::judge(value);
         println!(rt, "judge {value}: {integer}")?;
     }

@@ -117,14 +117,22 @@ pub fn unequal(j: Integer, k: Integer) -> Boolean
 fn compare_to_pos_over(j: Integer) -> Comparison
     ensures { λ r. ⌜ r ≡ to-pos-over j ⌝ }
 {
-    if j.is_fault(Fault::PosOver) | j.is_fault(Fault::Unknown) { Comparison::Undecided } else { Comparison::Less }
+    if j.is_fault(Fault::PosOver) | j.is_fault(Fault::Unknown) {
+        Comparison::Undecided
+    } else {
+        Comparison::Less
+    }
 }
 
 // Rule 5b: neg_over against J.
 fn compare_from_neg_over(j: Integer) -> Comparison
     ensures { λ r. ⌜ r ≡ from-neg-over j ⌝ }
 {
-    if j.is_fault(Fault::NegOver) | j.is_fault(Fault::Unknown) { Comparison::Undecided } else { Comparison::Less }
+    if j.is_fault(Fault::NegOver) | j.is_fault(Fault::Unknown) {
+        Comparison::Undecided
+    } else {
+        Comparison::Less
+    }
 }
 
 fn compare_values(j: Integer, k: Integer) -> Comparison

@@ -1,6 +1,7 @@
 // The order of integers that carry error values: max and min, and the comparisons.
 mod comparison;
 mod ranking;
+
 pub use comparison::Comparison;
 pub use comparison::at_least;
 pub use comparison::at_most;

@@ -32,8 +32,7 @@ pub fn min(j: Integer, k: Integer) -> Integer
 // Choosing by rank is choosing by the rules.
 pub fn ranking_stands()
     ensures { λ _. ⌜ Max-rules × Min-rules ⌝ }
-{
-}
+{}
 
 // Where an integer stands among what max chooses from.
 fn max_rank(j: Integer) -> i64

@@ -16,7 +16,7 @@ use Rattle.numbers.specs.Integers.{judged, is-fault, barred}
 use Rattle.arithmetic.specs.Arithmetic.{negative, positive}
 use Rattle.merging.specs.Operators.{tallied}
 use Rattle.merging.specs.Merged.{merged, unless-many}
-use Rattle.parts.specs.Parts.{any}
+use Rattle.merging.specs.Parts.{any}
 use Rattle.sums.specs.Plus.{amount, plus}
 use Rattle.sums.specs.Sums.{total, sum-of}
 use Rattle.sums.proofs.PlusLaws.{plus-sums}

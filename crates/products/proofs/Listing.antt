@@ -15,7 +15,7 @@ use Rattle.numbers.specs.declared.integer.Integer.the-variants.{Proper, Error}
 use Rattle.numbers.specs.Integers.{judged, is-fault, barred}
 use Rattle.arithmetic.specs.Arithmetic.{is-zero}
 use Rattle.merging.specs.Operators.{meaning}
-use Rattle.parts.specs.Parts.{any}
+use Rattle.merging.specs.Parts.{any}
 use Rattle.products.specs.Products.{weight, exact-product, Times-multiplies}
 use Rattle.products.proofs.Factors.{Factor, number, unknown, undefined, of-number, signed, factor, value, minus, mul, multiplied, Tally}
 use Rattle.products.proofs.Multiplying.{settle, times-assoc, times-comm, times-one, value-tally}

@@ -10,7 +10,7 @@ use Rattle.numbers.specs.declared.integer.Integer.the-variants.{Proper, Error}
 use Rattle.numbers.specs.Integers.{judged, is-fault, barred}
 use Rattle.arithmetic.specs.Arithmetic.{is-zero}
 use Rattle.merging.specs.Operators.{meaning}
-use Rattle.parts.specs.Parts.{any}
+use Rattle.merging.specs.Parts.{any}
 use Rattle.products.specs.Times.{times}
 
 -- What a part multiplies by: a proper number itself, and an over 2147483648 with its sign. Where any other part occurs, no

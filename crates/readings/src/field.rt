@@ -17,7 +17,11 @@ pub fn reading(text: &str) -> Option<Integer>
 fn named_fault(text: &str) -> Option<Fault>
     ensures { λ r. ⌜ r ≡ word-fault (now (text .entry)) ⌝ }
 {
-    if is_missed(text) { Some(Fault::MissElt) } else { error_word(text) }
+    if is_missed(text) {
+        Some(Fault::MissElt)
+    } else {
+        error_word(text)
+    }
 }
 
 fn is_missed(text: &str) -> bool

@@ -1,6 +1,7 @@
 // Tables of probe readings, as comma-separated text.
 mod field;
 mod table;
+
 pub use field::reading;
 pub use table::Column;
 pub use table::Misread;

@@ -19,9 +19,19 @@ pub struct Column {
 #[derive(Clone, Copy, Drop)]
 pub enum Misread {
     NoHeader,
-    NoReading { line: usize, column: usize },
-    TooManyFields { line: usize, columns: usize },
-    TooFewFields { line: usize, fields: usize, columns: usize },
+    NoReading {
+        line: usize,
+        column: usize,
+    },
+    TooManyFields {
+        line: usize,
+        columns: usize,
+    },
+    TooFewFields {
+        line: usize,
+        fields: usize,
+        columns: usize,
+    },
     Memory,
 }
 
@@ -46,10 +56,20 @@ pub impl fmt::Display for Misread as MisreadDisplay {
                 "line {line}, column {column}: expected a whole number, an empty field, miss, or the word of an error value"
             ),
             Misread::TooManyFields { line, columns } => {
-                write!(f, "line {line}: expected {columns} fields, as the first line has, and there are more")
+                write!(
+                    f,
+                    "line {line}: expected {columns} fields, as the first line has, and there are more"
+                )
             }
-            Misread::TooFewFields { line, fields, columns } => {
-                write!(f, "line {line}: expected {columns} fields, as the first line has, and there are {fields}")
+            Misread::TooFewFields {
+                line,
+                fields,
+                columns,
+            } => {
+                write!(
+                    f,
+                    "line {line}: expected {columns} fields, as the first line has, and there are {fields}"
+                )
             }
             Misread::Memory => f.write_str("out of memory"),
         }
@@ -77,7 +97,10 @@ pub fn read_table(heap: Global, text: &str) -> Result<Vec<Column>, Misread>
 fn read_header(heap: Global, line: &str, columns: &mut Vec<Column>) -> Result<(), Misread> {
     for name in line.split(',') {
         let name = String::from_str(heap, name.trim_ascii())?;
-        columns.push(Column { name, readings: Vec::new(heap) })?;
+        columns.push(Column {
+            name,
+            readings: Vec::new(heap),
+        })?;
     }
     Ok(())
 }
@@ -88,16 +111,26 @@ fn read_row(line: &str, number: usize, columns: &mut Vec<Column>) -> Result<(), 
     for field in line.split(',') {
         let count = columns.len();
         if fields >= count {
-            return Err(Misread::TooManyFields { line: number, columns: count });
+            return Err(Misread::TooManyFields {
+                line: number,
+                columns: count,
+            });
         }
         let Some(value) = reading(field.trim_ascii()) else {
-            return Err(Misread::NoReading { line: number, column: fields + 1 });
+            return Err(Misread::NoReading {
+                line: number,
+                column: fields + 1,
+            });
         };
         columns[fields].readings.push(value)?;
         fields += 1;
     }
     if fields < columns.len() {
-        return Err(Misread::TooFewFields { line: number, fields, columns: columns.len() });
+        return Err(Misread::TooFewFields {
+            line: number,
+            fields,
+            columns: columns.len(),
+        });
     }
     Ok(())
 }

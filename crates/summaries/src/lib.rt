@@ -37,7 +37,11 @@ pub fn merge_in_three_orders<O: Operator<Part = Integer, Closed = Integer>>(
     let front = merge::<O>(readings)?;
     let back = merge_backwards::<O>(readings)?;
     let halves = merge_halves::<O>(readings)?;
-    Ok(ThreeOrders { front, back, halves })
+    Ok(ThreeOrders {
+        front,
+        back,
+        halves,
+    })
 }
 
 // 0 + the first reading + the second, and so on: no merge, since its order counts.

@@ -17,7 +17,7 @@ use Rattle.numbers.specs.Integers.{is-fault, barred}
 use Rattle.arithmetic.specs.Arithmetic.{negative, positive}
 use Rattle.merging.specs.Operators.{Sized, Laws, most, tallied}
 use Rattle.merging.proofs.Sizing.{Kept, every-sized, laws-by}
-use Rattle.parts.specs.Parts.{any}
+use Rattle.merging.specs.Parts.{any}
 use Rattle.sums.specs.declared.Sum.{Sum}
 use Rattle.sums.specs.Plus.{no-parts, one-part, together, settled, plus}
 use Rattle.sums.specs.Sums.{total, Plus-sums}

@@ -9,7 +9,7 @@ use Rattle.numbers.specs.declared.integer.Integer.the-variants.{Error}
 use Rattle.numbers.specs.Integers.{judged, is-fault, barred}
 use Rattle.arithmetic.specs.Arithmetic.{negative, positive}
 use Rattle.merging.specs.Operators.{meaning}
-use Rattle.parts.specs.Parts.{any}
+use Rattle.merging.specs.Parts.{any}
 use Rattle.sums.specs.Plus.{amount, plus}
 
 -- The exact sum of the proper parts.

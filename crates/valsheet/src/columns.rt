@@ -39,7 +39,10 @@ fn print_column<S: Operators>(rt: &LibcRuntime, column: &Column) -> io::Result<(
     print_merge::<S::Min>(rt, "min", readings)?;
     let front = repeated_plus(readings);
     let back = repeated_plus_backwards(readings);
-    println!(rt, "  repeated + gives {front} from the front and {back} from the back")
+    println!(
+        rt,
+        "  repeated + gives {front} from the front and {back} from the back"
+    )
 }
 
 // One line for one operator: its value in file order, backwards and by halves.
@@ -53,9 +56,19 @@ fn print_merge<O: Operator<Part = Integer, Closed = Integer>>(
             let front = orders.front;
             let back = orders.back;
             let halves = orders.halves;
-            let verdict = if orders.agree() { "they agree" } else { "THEY DIFFER" };
-            println!(rt, "  {name}: {front} in file order, {back} backwards, {halves} by halves: {verdict}")
+            let verdict = if orders.agree() {
+                "they agree"
+            } else {
+                "THEY DIFFER"
+            };
+            println!(
+                rt,
+                "  {name}: {front} in file order, {back} backwards, {halves} by halves: {verdict}"
+            )
         }
-        Err(_) => println!(rt, "  {name}: more than 32768 readings, too many for one merge"),
+        Err(_) => println!(
+            rt,
+            "  {name}: more than 32768 readings, too many for one merge"
+        ),
     }
 }

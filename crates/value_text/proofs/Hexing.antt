@@ -33,9 +33,9 @@ next-two bs i h =
     ap hex
     (drop-cons bs (2 * i) 0 (omega arith)
     ∙ ap (_∷_ (getD bs (2 * i) 0))
-        (ap (λ k. drop k bs) one
-        ∙ drop-cons bs (2 * i + 1) 0 h
-        ∙ ap (λ k. getD bs (2 * i + 1) 0 ∷ drop k bs) two))
+    (ap (λ k. drop k bs) one
+    ∙ drop-cons bs (2 * i + 1) 0 h
+    ∙ ap (λ k. getD bs (2 * i + 1) 0 ∷ drop k bs) two))
     ∙ two-more (getD bs (2 * i) 0) (getD bs (2 * i + 1) 0) (drop (2 * (i + 1)) bs)
 
 before-more : (xs : List ℕ) (b : ℕ) (o : Option (List ℕ)) → before xs (first-byte (Some b) o) ≡ before (xs ++ b ∷ []) o
@@ -44,8 +44,8 @@ before-more xs b None = refl
 
 -- A byte more.
 pub read-more : (bs xs : List ℕ) (i b : ℕ) → hex bs ≡ before xs (hex (drop (2 * i) bs)) → 2 * i + 1 < length bs
-  → Some b ≡ byte-of (digit-value (getD bs (2 * i) 0)) (digit-value (getD bs (2 * i + 1) 0))
-  → hex bs ≡ before (xs ++ b ∷ []) (hex (drop (2 * (i + 1)) bs))
+    → Some b ≡ byte-of (digit-value (getD bs (2 * i) 0)) (digit-value (getD bs (2 * i + 1) 0))
+    → hex bs ≡ before (xs ++ b ∷ []) (hex (drop (2 * (i + 1)) bs))
 read-more bs xs i b inv h e =
     inv
     ∙ ap (before xs) (next-two bs i h ∙ ap (λ o. first-byte o (hex (drop (2 * (i + 1)) bs))) (sym e))
@@ -53,8 +53,8 @@ read-more bs xs i b inv h e =
 
 -- No byte there.
 pub read-none : (bs xs : List ℕ) (i : ℕ) → hex bs ≡ before xs (hex (drop (2 * i) bs)) → 2 * i + 1 < length bs
-  → None ≡ byte-of (digit-value (getD bs (2 * i) 0)) (digit-value (getD bs (2 * i + 1) 0))
-  → hex bs ≡ None
+    → None ≡ byte-of (digit-value (getD bs (2 * i) 0)) (digit-value (getD bs (2 * i + 1) 0))
+    → hex bs ≡ None
 read-none bs xs i inv h e = inv ∙ ap (before xs) (next-two bs i h ∙ ap (λ o. first-byte o (hex (drop (2 * (i + 1)) bs))) (sym e))
 
 nothing-left : hex [] ≡ Some []

@@ -13,7 +13,11 @@ use std::alloc::Global;
 pub fn parse_bytes(heap: Global, text: &str) -> Result<Vec<u8>, Problem>
     ensures { λ r. ⌜ Cases r (λ v. hex-text (now (text .entry)) ≡ Some (vec-items v)) (λ e. Refuses e (hex-text (now (text .entry)))) ⌝ }
 {
-    if is_dash(text) { Ok(Vec::new(heap)) } else { digits_to_bytes(heap, text.as_bytes()) }
+    if is_dash(text) {
+        Ok(Vec::new(heap))
+    } else {
+        digits_to_bytes(heap, text.as_bytes())
+    }
 }
 
 fn is_dash(text: &str) -> bool

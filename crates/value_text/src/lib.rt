@@ -3,6 +3,7 @@ mod hex;
 mod problem;
 mod rows;
 mod show;
+
 pub use hex::parse_bytes;
 pub use problem::Problem;
 pub use problem::ProblemDisplay;

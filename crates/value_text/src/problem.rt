@@ -36,10 +36,22 @@ pub impl fmt::Display for Problem as ProblemDisplay {
     fn fmt<W: fmt::Write>(&self, f: &mut fmt::Formatter<W>) -> fmt::Result {
         match *self {
             Problem::OddDigits => f.write_str("expected two hexadecimal digits for each byte"),
-            Problem::NoHexDigit { place } => write!(f, "byte {place}: expected two hexadecimal digits"),
-            Problem::NoRow { place } => write!(f, "row {place}: expected array:T, record:T,.. or union:T,.."),
-            Problem::NoMembers { place } => write!(f, "row {place}: expected 1 to 8 type numbers (an array has one)"),
-            Problem::NotLower { place } => write!(f, "row {place}: expected type numbers lower than the row's own"),
+            Problem::NoHexDigit { place } => write!(
+                f,
+                "byte {place}: expected two hexadecimal digits"
+            ),
+            Problem::NoRow { place } => write!(
+                f,
+                "row {place}: expected array:T, record:T,.. or union:T,.."
+            ),
+            Problem::NoMembers { place } => write!(
+                f,
+                "row {place}: expected 1 to 8 type numbers (an array has one)"
+            ),
+            Problem::NotLower { place } => write!(
+                f,
+                "row {place}: expected type numbers lower than the row's own"
+            ),
             Problem::TooManyRows => f.write_str("expected at most 60 rows"),
             Problem::Memory => f.write_str("out of memory"),
         }

@@ -19,13 +19,23 @@ pub fn show_value(heap: Global, bytes: &[u8]) -> Result<String, Problem> {
 }
 
 // Writes the value at `at`, and answers where it ends.
-fn show(heap: Global, out: &mut String, bytes: &[u8], at: usize, depth: u8) -> Result<usize, Problem> {
+fn show(
+    heap: Global,
+    out: &mut String,
+    bytes: &[u8],
+    at: usize,
+    depth: u8,
+) -> Result<usize, Problem> {
     if depth == 0 || at >= bytes.len() {
         return Ok(bytes.len());
     }
     if let Some(integer) = read_integer(bytes, at) {
         out.push_str(integer.to_string(heap)?.as_str())?;
-        return Ok(if bytes[at] == 0x51 { at.saturating_add(5) } else { at.saturating_add(2) });
+        return Ok(if bytes[at] == 0x51 {
+            at.saturating_add(5)
+        } else {
+            at.saturating_add(2)
+        });
     }
     if let Some(boolean) = read_boolean(bytes, at) {
         out.push_str(boolean.to_string(heap)?.as_str())?;
@@ -41,7 +51,13 @@ fn show(heap: Global, out: &mut String, bytes: &[u8], at: usize, depth: u8) -> R
     }
 }
 
-fn show_array(heap: Global, out: &mut String, bytes: &[u8], at: usize, depth: u8) -> Result<usize, Problem>
+fn show_array(
+    heap: Global,
+    out: &mut String,
+    bytes: &[u8],
+    at: usize,
+    depth: u8,
+) -> Result<usize, Problem>
     requires { ⌜ at + 2 ≤ length (now bytes) ⌝ }
 {
     if bytes.len() - at < 7 {
@@ -59,7 +75,13 @@ fn show_array(heap: Global, out: &mut String, bytes: &[u8], at: usize, depth: u8
     Ok(end)
 }
 
-fn show_record(heap: Global, out: &mut String, bytes: &[u8], at: usize, depth: u8) -> Result<usize, Problem>
+fn show_record(
+    heap: Global,
+    out: &mut String,
+    bytes: &[u8],
+    at: usize,
+    depth: u8,
+) -> Result<usize, Problem>
     requires { ⌜ at + 2 ≤ length (now bytes) ⌝ }
 {
     let count = bytes[at + 1];
@@ -73,7 +95,13 @@ fn show_record(heap: Global, out: &mut String, bytes: &[u8], at: usize, depth: u
     Ok(end)
 }
 
-fn show_union(heap: Global, out: &mut String, bytes: &[u8], at: usize, depth: u8) -> Result<usize, Problem>
+fn show_union(
+    heap: Global,
+    out: &mut String,
+    bytes: &[u8],
+    at: usize,
+    depth: u8,
+) -> Result<usize, Problem>
     requires { ⌜ at + 2 ≤ length (now bytes) ⌝ }
 {
     let tag = bytes[at + 1];
