@@ -1,7 +1,7 @@
 ghost use mathlib.Core.Path.{_≡_};
 ghost use mathlib.Core.Logic.{_⊎_};
 ghost use Prim.Native.Nat.{ℕ, _<_, _≤_};
-ghost use lib.ListN.{length, getD, take};
+ghost use lib.ListN.{length, getD};
 ghost use Rattle.std.specs.Options.{Cases as BySome};
 ghost use Rattle.std.specs.Orderings.{Decides};
 ghost use Rattle.values.specs.Rows.{used, all-below};
@@ -9,9 +9,9 @@ ghost use Rattle.std.specs.shelf.Maps.{nth};
 use crate::members::Members;
 
 impl Members {
-    // The first `count` of the numbers; none unless these are 1 to 8.
+    // The first `count` of the numbers; none unless these are 1 to 8. The others are kept as they are.
     pub fn new(numbers: [u8; 8], count: u8) -> Option<Members>
-        ensures { λ r. ⌜ BySome r ((count ≡ 0) ⊎ (8 < count)) (λ m. used m ≡ take count numbers) ⌝ }
+        ensures { λ r. ⌜ BySome r ((count ≡ 0) ⊎ (8 < count)) (λ m. (m .numbers ≡ numbers) × (m .count ≡ count)) ⌝ }
     {
         if count == 0 {
             return None;

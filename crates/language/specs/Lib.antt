@@ -1,0 +1,5 @@
+pub mod Syntax
+pub mod Encoding
+pub mod Sorts
+pub mod Typing
+pub mod Tables
