@@ -53,7 +53,6 @@ mutual
 
 infixr 50 _then_
 infixr 50 _or_
-
 -- A function: the types of its parameters and of its results, and its body.
 pub record Function : Type 0 where
   pub parameters : List ℕ

@@ -4,6 +4,7 @@ mod merge;
 mod node;
 mod operation;
 mod program;
+
 pub use function::Function;
 pub use merge::Merge;
 pub use node::Block;
