@@ -1,0 +1,11 @@
+pub mod Figures
+pub mod Functions
+pub mod Bounds
+pub mod Growing
+pub mod Loops
+pub mod Runs
+pub mod Keeping
+pub mod Numbered
+pub mod Typed
+pub mod Kept
+pub mod Indices
