@@ -9,3 +9,4 @@ pub mod Numbered
 pub mod Typed
 pub mod Kept
 pub mod Indices
+pub mod Linking

@@ -42,7 +42,7 @@ pub rows-sound : (m : Module) → Well-typed m → sound (m .rows) ≡ true
 unfolding sound
 rows-sound m w = and-from _ _ (le-leb _ 60 (w .few-rows)) (rows-lower [] (m .rows) (w .rows-fit))
 
-nth-there : {X : Type 0} (xs : List X) (i : ℕ) (x : X) → nth xs i ≡ Some x → (i < length xs) × (x ≡ getD xs i x)
+pub nth-there : {X : Type 0} (xs : List X) (i : ℕ) (x : X) → nth xs i ≡ Some x → (i < length xs) × (x ≡ getD xs i x)
 nth-there [] i x e = absurd (none-some x e)
 nth-there (y ∷ xs) zero x e = (omega arith, sym (same-some y x e))
 nth-there (y ∷ xs) (suc i) x e = let k = nth-there xs i x e in (omega (arith, k .0), k .1)

@@ -4,7 +4,7 @@ use mathlib.Core.List.{List, [], _∷_, _++_}
 use Prim.Native.Nat.{ℕ, zero, suc, _+_, _-_, _≤_, _<_}
 use lib.IntN.{pos, _+ℤ_}
 use lib.Signed.{_≤ℤ_, _<ℤ_}
-use lib.ListN.{length}
+use lib.ListN.{length, getD}
 use Rattle.std.specs.shelf.Maps.{nth}
 use Rattle.std.specs.declared.option.Option.the-variants.{Some}
 use Rattle.numbers.specs.declared.number.Number.{Number}
@@ -18,7 +18,7 @@ use Rattle.language.specs.declared.merge.Merge.{Merge}
 use Rattle.language.specs.Syntax.{Expr, LoopEnd, Function, Module}
 use Rattle.language.specs.Typing.{Well-typed}
 use Rattle.meaning.specs.Outcomes.{Outcome, finished, spent, full, after, Keeps}
-use Rattle.meaning.specs.Evaluation.{Merging, Turn, turned, loop, next-index, span, eval, eval-end, meanings, run}
+use Rattle.meaning.specs.Evaluation.{Merging, no-function, Turn, turned, loop, next-index, span, eval, eval-end, meanings, run}
 use Rattle.meaning.specs.Runs.{merged, Definitions, Groupings, merged-under}
 
 -- The greatest length of a store.
@@ -78,6 +78,22 @@ Steps-are-counted =
     (merge : Merging) (functions : List Function) (f : ℕ) (arguments : List Value) (free budget : ℕ)
     → Counts budget (run merge functions f arguments free budget)
 
+-- ── Calls ──
+
+-- How many results each function has.
+unfoldable pub counts-of : List Function → List ℕ
+counts-of [] = []
+counts-of (f ∷ fs) = length (f .results) ∷ counts-of fs
+
+-- A call of a function of a checked module is its body, where calls in it are those of the module's own functions.
+abbrev pub Calls-run-bodies : Type 0
+Calls-run-bodies =
+    (merge : Merging) (m : Module) → Well-typed m
+    → (number : ℕ) (f : Function) → nth (m .functions) number ≡ Some f
+    → (arguments : List Value) (free budget : ℕ)
+    → getD (meanings merge (m .functions)) number no-function arguments free budget
+    ≡ eval merge (counts-of (m .functions)) (meanings merge (m .functions)) (f .body) arguments free budget
+
 -- ── Loops ──
 
 -- Fewer steps are left than there were, unless there was none.
@@ -85,11 +101,6 @@ unfoldable pub Below : {A : Type 0} → ℕ → Outcome A → Type 0
 Below budget (finished a left) = left < budget
 Below budget spent = Unit {0}
 Below budget (full left) = left < budget
-
--- How many results each function has.
-unfoldable pub counts-of : List Function → List ℕ
-counts-of [] = []
-counts-of (f ∷ fs) = length (f .results) ∷ counts-of fs
 
 -- Every expression takes a step.
 abbrev pub Expressions-step : Type 0

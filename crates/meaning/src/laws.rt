@@ -1,5 +1,5 @@
 ghost use Rattle.meaning.specs.Figures.{Figures};
-ghost use Rattle.meaning.specs.Laws.{Few-are-merged, Grouping-is-free, Budget-only-stops, Steps-are-counted, Expressions-step, Loops-are-unbounded, Indices-go-up, Room-only-stops, Results-fit, Types-are-kept};
+ghost use Rattle.meaning.specs.Laws.{Few-are-merged, Grouping-is-free, Budget-only-stops, Steps-are-counted, Calls-run-bodies, Expressions-step, Loops-are-unbounded, Indices-go-up, Room-only-stops, Results-fit, Types-are-kept};
 ghost use Rattle.meaning.specs.Runs.{six};
 use merging::Operators;
 
@@ -27,6 +27,11 @@ pub fn budget_stands()
 pub fn steps_stand()
     ensures runs { λ _. ⌜ Steps-are-counted ⌝ }
     ensures expressions { λ _. ⌜ Expressions-step ⌝ }
+{}
+
+// A call of a function is its body, with the module's own functions for the calls in it.
+pub fn calls_stand()
+    ensures { λ _. ⌜ Calls-run-bodies ⌝ }
 {}
 
 // The bound on the turns of a loop means nothing.

@@ -3,6 +3,7 @@
 mod laws;
 
 pub use laws::budget_stands;
+pub use laws::calls_stand;
 pub use laws::figures_stand;
 pub use laws::grouping_stands;
 pub use laws::indices_stand;
