@@ -1,5 +1,6 @@
-// The store of a run: bytes that are lent to it, on which values stand one behind the other up to a top. Only the
-// functions here write to the store, and only they judge whether something fits.
+// The store of a run: bytes that are lent to it, on which values stand one behind the other up to a top. A run writes
+// to its store through these functions alone. Scalars are written by the value reader's own functions; whether
+// something fits is one definition for all of them.
 mod bytes;
 mod heads;
 mod scalars;
