@@ -1,0 +1,5 @@
+mod Facts
+mod Steps
+mod Loops
+mod ModuleFacts
+mod Meaning
