@@ -150,6 +150,11 @@ def cases():
     yield rows, 6, "5001"
     yield "array:1", 2, array(1, *[integer(k) for k in range(300)])
     yield "array:0", 2, array(-10, *["5001"] * 500)
+    # 65,536 bytes, and the same with its last byte missing
+    full = array(1, array(1, *["5001"] * 32761))
+    assert len(full) == 2 * 65536
+    yield "array:0/array:2", 3, full
+    yield "array:0/array:2", 3, full[:-2]
 
 
 def main():
