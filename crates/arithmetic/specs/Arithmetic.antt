@@ -1,8 +1,6 @@
 -- Arithmetic on integers with error values. Each operation has one line for each of its rules, in their order, and the
 -- first that fits counts; a rule of + and of × is tried both ways round before the next.
-use Rattle.std.specs.Prelude.{Bool, true, false, cond, not, ◌||◌, ℤ, pos, negsuc, ◌+ℤ◌, ◌-ℤ◌, ◌*ℤ◌, neg_ℤ, int_div, int_lt, unsigned_abs}
-use Rattle.numbers.specs.declared.number.Number.{Number}
-use Rattle.numbers.specs.declared.fault.Fault.{Fault}
+use Rattle.std.specs.Prelude.{Bool, false, cond, not, ◌||◌, ℤ, pos, ◌+ℤ◌, ◌-ℤ◌, ◌*ℤ◌, neg_ℤ, int_div, int_lt, unsigned_abs}
 use Rattle.numbers.specs.declared.fault.Fault.TheVariants.{Undef, MissElt, PosOver, NegOver, Unknown, ZeroDivide}
 use Rattle.numbers.specs.declared.integer.Integer.{Integer}
 use Rattle.numbers.specs.declared.integer.Integer.TheVariants.{Proper, Error}

@@ -1,4 +1,6 @@
 // Arithmetic on integers that carry error values. Rules are named as in specs/Arithmetic.antt.
+#![tactic(auto)]
+
 ghost use Rattle.std.specs.Prelude.{◌≡◌, true, ◌||◌, pos, ◌+ℤ◌, ◌-ℤ◌, ◌*ℤ◌, ◌≢◌, int_div, unsigned_abs};
 ghost use Rattle.numbers.specs.Integers.{is_error, judged};
 ghost use Rattle.arithmetic.specs.Arithmetic.{negative, is_zero, positive, pos_over_plus, neg_over_plus, sum, negation, difference, times_pos_over, times_neg_over, times_unknown, product, quotient, modulus, magnitude};

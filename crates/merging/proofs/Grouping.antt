@@ -1,6 +1,6 @@
 -- What the laws give: how a list's tally is put together from its parts, and that every grouping has one meaning.
 use Rattle.std.proofs.Common.{◌≡◌, ℕ, ◌+◌, ◌≤◌, List, [], ◌∷◌, ◌++◌, length, fold, sym, refl, ap, ◌∙◌, subst, ap₂, arith, length-append}
-use Rattle.merging.specs.Operators.{Definition, Sized, sized_start, sized_tally, sized_join, Laws, most, tallied, meaning}
+use Rattle.merging.specs.Operators.{Definition, Sized, sized_start, sized_tally, sized_join, Laws, most, tallied}
 use Rattle.merging.specs.Trees.{Tree, start_leaf, part_leaf, fork, leaves, root, Reordered, none, keep, swap, twice, EveryGrouping}
 
 pub same_length : {P : Type 0} {xs ys : List P} → Reordered xs ys → length xs ≡ length ys

@@ -4,7 +4,7 @@ use borrow.Author.Differences.{ints}
 use Rattle.std.specs.Int.{int_max, int_min}
 use Rattle.std.proofs.lemmas.Int.{clamps}
 use Rattle.merging.specs.Operators.{Definition, Laws}
-use Rattle.merging.proofs.Sizing.{Kept, Under, laws_by}
+use Rattle.merging.proofs.Sizing.{Kept, laws_by}
 
 -- A choice of one of two ranks, in whatever order they come.
 pub record Choice {R : Type 0} (choose : R → R → R) : Type 0 where

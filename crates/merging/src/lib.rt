@@ -1,4 +1,6 @@
 // Merging operators and the merging of parts with them, in every order and grouping.
+#![tactic(auto)]
+
 mod bundle;
 mod operator;
 mod orders;

@@ -1,7 +1,6 @@
 -- Booleans with their two error values. An operation on an error gives undef; the tests always answer.
 use Rattle.std.specs.Prelude.{Bool, true, false, not, ◌&&◌, ◌||◌}
 use Rattle.numbers.specs.declared.fault.Fault.{Fault}
-use Rattle.numbers.specs.declared.fault.BasicFault.{BasicFault}
 use Rattle.numbers.specs.declared.fault.BasicFault.TheVariants.{Undef}
 use Rattle.numbers.specs.declared.boolean.Boolean.{Boolean}
 use Rattle.numbers.specs.declared.boolean.Boolean.TheVariants.{Proper, Error}

@@ -1,4 +1,6 @@
 // Integers and booleans that carry VAL's error values.
+#![tactic(auto)]
+
 mod boolean;
 mod fault;
 mod integer;

@@ -1,7 +1,6 @@
 -- Comparisons of two integers.
 use Rattle.std.specs.Prelude.{Bool, true, false, not, cond, ◌||◌}
 use Rattle.std.specs.Int.Signed.{lt_z}
-use Rattle.numbers.specs.declared.number.Number.{Number}
 use Rattle.numbers.specs.declared.fault.Fault.TheVariants.{PosOver, NegOver, Unknown}
 use Rattle.numbers.specs.declared.fault.BasicFault.TheVariants.{Undef}
 use Rattle.numbers.specs.declared.integer.Integer.{Integer}

@@ -3,7 +3,6 @@
 -- neg_over; 7e and 7f max and min of unknown and J are unknown.
 use Rattle.std.specs.Prelude.{◌≡◌, false, cond, ◌||◌, ℤ, pos, negsuc}
 use Rattle.std.specs.Int.Signed.{lt_z}
-use Rattle.numbers.specs.declared.number.Number.{Number}
 use Rattle.numbers.specs.declared.fault.Fault.TheVariants.{Undef, MissElt, PosOver, NegOver, Unknown, ZeroDivide}
 use Rattle.numbers.specs.declared.integer.Integer.{Integer}
 use Rattle.numbers.specs.declared.integer.Integer.TheVariants.{Proper, Error}

@@ -1,4 +1,6 @@
 // The order of integers that carry error values: max and min, and the comparisons.
+#![tactic(auto)]
+
 mod comparison;
 mod ranking;
 

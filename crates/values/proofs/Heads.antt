@@ -1,12 +1,7 @@
 -- A value as its head, the kind byte and the body, and its parts.
-use Rattle.std.proofs.Common.{◌≡◌, ℕ, zero, suc, ◌+◌, ◌-◌, ◌*◌, ◌/◌, ◌%◌, ◌^◌, ◌<◌, ◌≤◌, Bool, true, false, cond, eqb, List, [], ◌∷◌, ◌++◌, length, get_or, ℤ, pos, sym, refl, ap, ◌∙◌, subst, append_assoc, append-nil, arith, length-append, w32, SFits, to_z, of_z}
-use borrow.Author.Differences.{ints}
-use Rattle.std.proofs.lemmas.Int.{to_z-of_z}
-use Rattle.numbers.specs.declared.number.Number.{Number}
-use Rattle.numbers.specs.declared.fault.Fault.{Fault}
-use Rattle.numbers.specs.declared.fault.Fault.TheVariants.{Undef, MissElt, PosOver, NegOver, Unknown, ZeroDivide}
+use Rattle.std.proofs.Common.{◌≡◌, ℕ, ◌+◌, ◌≤◌, List, [], ◌∷◌, ◌++◌, length, sym, refl, ap, append-nil, arith}
 use Rattle.numbers.specs.Faults.{code_of}
-use Rattle.values.specs.Values.{Value, boolean, integer, error, array, record_of, union, Values, none, ◌then◌, members, row, size, row_size, sizes, encode, encode_row, encodes, word, two_bytes, four_bytes, bit}
+use Rattle.values.specs.Values.{Value, boolean, integer, error, array, record_of, union, Values, none, ◌then◌, members, size, row_size, sizes, encode, encode_row, encodes, word, two_bytes, bit}
 
 abbrev pub head : Value → List ℕ
 head (boolean b) = 0x50 ∷ bit b ∷ []

@@ -1,5 +1,5 @@
 -- The bytes of values are a prefix code.
-use Rattle.std.proofs.Common.{◌≡◌, ℕ, zero, suc, ◌+◌, ◌-◌, ◌*◌, ◌/◌, ◌%◌, ◌^◌, ◌<◌, ◌≤◌, Bool, true, false, cond, eqb, List, [], ◌∷◌, ◌++◌, length, get_or, take, drop, ℤ, pos, negsuc, ◌≤ℤ◌, Some, None, Option, sym, refl, ap, ◌∙◌, subst, ⊎_elim, append_assoc, append-nil, arith, length-append, w32, SFits, to_z, of_z}
+use Rattle.std.proofs.Common.{◌≡◌, ℕ, zero, suc, ◌+◌, ◌*◌, ◌/◌, ◌%◌, ◌<◌, ◌≤◌, true, false, cond, eqb, List, [], ◌∷◌, ◌++◌, length, get_or, take, drop, ℤ, pos, negsuc, ◌≤ℤ◌, Some, None, Option, sym, refl, ap, ◌∙◌, subst, ⊎_elim, append_assoc, append-nil, arith, length-append, w32, SFits, to_z, of_z}
 use native.Mathlib.Nat.{div-div-eq-div-mul}
 use borrow.Author.Differences.{ints}
 use Rattle.std.proofs.lemmas.Int.{to_z-of_z}
@@ -12,9 +12,9 @@ use Rattle.numbers.specs.declared.fault.Fault.TheVariants.{Undef, MissElt, PosOv
 use Rattle.numbers.specs.Faults.{code_of, of_code}
 use Rattle.numbers.specs.Integers.{judged}
 use Rattle.numbers.proofs.Judging.{judged_proper}
-use Rattle.values.specs.Values.{Value, boolean, integer, error, array, record_of, union, Values, none, ◌then◌, members, row, size, sizes, encode, encodes, word, four_bytes}
+use Rattle.values.specs.Values.{Value, boolean, integer, error, array, record_of, union, Values, none, ◌then◌, members, row, sizes, encode, encodes}
 use Rattle.values.specs.Encodings.{Encodings, PrefixCode, SizeIsLength, TwoAtLeast, FewValues}
-use Rattle.values.specs.Trees.{Tree, Trees, Of, RowOf, OneOf, Each, Indexed}
+use Rattle.values.specs.Trees.{Tree, Trees, Of, RowOf, OneOf, Each}
 use Rattle.values.proofs.Forms.{Faulty, form_boolean, form_integer, form_array, form_record, form_union}
 use Rattle.values.proofs.Heads.{head, parts, encode_is, size_is, head_two}
 

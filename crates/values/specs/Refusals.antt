@@ -1,5 +1,5 @@
 -- The refusals' numbers, offsets, words and texts.
-use Rattle.std.specs.Prelude.{ℕ, List, [], ◌∷◌, ◌++◌, Some, None, codes, decimal, Option}
+use Rattle.std.specs.Prelude.{ℕ, List, ◌++◌, Some, None, codes, decimal, Option}
 use Rattle.values.specs.declared.refusal.Refusal.{Refusal}
 use Rattle.values.specs.declared.refusal.Refusal.TheVariants.{Cut, Strange, Deep, Twin, Undeclared, Clash, Pending, Absent, Allowance, Spent, Full, Spoilt, Foreign, Oversize, Memory}
 

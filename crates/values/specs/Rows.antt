@@ -1,5 +1,5 @@
 -- Type tables: rows that use lower type numbers only, and the types that they stand for.
-use Rattle.std.specs.Prelude.{◌≡◌, ℕ, ◌+◌, Bool, true, false, ◌&&◌, List, [], ◌∷◌, ◌++◌, length, take, Option, nat_le, nat_lt, slice_index_or}
+use Rattle.std.specs.Prelude.{◌≡◌, ℕ, ◌+◌, Bool, true, ◌&&◌, List, [], ◌∷◌, ◌++◌, length, take, Option, nat_le, nat_lt, slice_index_or}
 use Rattle.std.specs.List.{slice_get}
 use Rattle.values.specs.declared.members.Members.{Members}
 use Rattle.values.specs.declared.row.Row.{Row}

@@ -1,4 +1,6 @@
 // Values of a small language as bytes, their types, and the refusals of its calls.
+#![tactic(auto)]
+
 mod encodings;
 mod members;
 mod refusal;

@@ -4,8 +4,8 @@ use Rattle.numbers.specs.Integers.{judged}
 use Rattle.arithmetic.proofs.Exact.{product_fits}
 use Rattle.arithmetic.proofs.exact_product.Goals as goal
 
-pub overflow-mul-wide : goal.overflow-mul-wide
-overflow-mul-wide c =
+pub overflow_mul-wide : goal.overflow_mul-wide
+overflow_mul-wide c =
     let fits_m : SFits w64 c.wide.result = search rules in
     let fits_n : SFits w64 c.wide-2.result = search rules in
     simp to_z-of_z (rw (c.wide.ensures, c.wide-2.ensures) (product_fits c.args.m c.args.n))

@@ -11,7 +11,7 @@ use Rattle.check.proofs.filling.check.Goals as goal
 pub returns-then-bytes-gt16384 : goal.returns-then-bytes-gt16384
 returns-then-bytes-gt16384 c =
     let bs = c.args.bytes.now in
-    let bytes : Bytes bs = λ i. omega (arith, c.type-inv.bytes i) in
+    let bytes : Bytes bs = λ i. omega (arith, c.type_inv.bytes i) in
     let p = c.args.program.now in
     let all : Checked bs p p (Err Oversize) = (refl, inr (many_bytes bs c.if-bytes-gt16384.true)) in
     record { checked = all; means = meaning bs bytes p p (Err Oversize) all }
@@ -19,7 +19,7 @@ returns-then-bytes-gt16384 c =
 pub returns-in-Err : goal.returns-in-Err
 returns-in-Err c =
     let bs = c.args.bytes.now in
-    let bytes : Bytes bs = λ i. omega (arith, c.type-inv.bytes i) in
+    let bytes : Bytes bs = λ i. omega (arith, c.type_inv.bytes i) in
     let p = c.args.program.now in
     let r = c.refusal_of.result in
     let why : (r ≡ Memory) ⊎ (verdict bs ≡ refused r) =
@@ -28,17 +28,17 @@ returns-in-Err c =
     record { checked = all; means = meaning bs bytes p p (Err r) all }
 
 -- The holder has the tables of a well-typed module.
-pub invariant-of-drop : goal.invariant-of-drop
-invariant-of-drop c =
+pub invariant_of-drop : goal.invariant_of-drop
+invariant_of-drop c =
     let bs = c.args.bytes.now in
-    let bytes : Bytes bs = λ i. omega (arith, c.type-inv.bytes i) in
+    let bytes : Bytes bs = λ i. omega (arith, c.type_inv.bytes i) in
     let M = c.in-Ok.ensures in
     (∣ inr (M.0, (passed bs bytes c.if-bytes-gt16384.false M.0 M.1 M.2).1, M.3) ∣₁, tt)
 
 pub returns : goal.returns
 returns c =
     let bs = c.args.bytes.now in
-    let bytes : Bytes bs = λ i. omega (arith, c.type-inv.bytes i) in
+    let bytes : Bytes bs = λ i. omega (arith, c.type_inv.bytes i) in
     let M = c.in-Ok.ensures in
     let v = passed bs bytes c.if-bytes-gt16384.false M.0 M.1 M.2 in
     record { checked = (M.0, v.0, M.3); means = (M.0, (exact bs bytes M.0).0 (length bs, v.0), M.3) }

@@ -13,15 +13,15 @@ returns-then-x-y c =
     not_same (used c.args.a) (used c.args.b)
     (λ e. c.if-x-y.true (let p = c.in-Some.ensures in let q = c.in-Some-get.ensures in let r = ap (λ xs. slice_get xs c.loop-i.i) e in cc))
 
-pub returns-in-default : goal.returns-in-default
-returns-in-default c =
+pub returns-in_default : goal.returns-in_default
+returns-in_default c =
     let l : c.loop-i.i < length (used c.args.a) = omega (arith, c.count-i-end.ensures) in
-    absurd (nth_there (used c.args.a) c.loop-i.i l c.in-default.ensures)
+    absurd (nth_there (used c.args.a) c.loop-i.i l c.in_default.ensures)
 
-pub returns-in-default-get : goal.returns-in-default-get
-returns-in-default-get c =
+pub returns-in_default-get : goal.returns-in_default-get
+returns-in_default-get c =
     let l : c.loop-i.i < length (used c.args.b) = omega (arith, c.count-i-end.ensures, c.if-count.false, c.count.ensures, c.count-2.ensures) in
-    absurd (nth_there (used c.args.b) c.loop-i.i l c.in-default-get.ensures)
+    absurd (nth_there (used c.args.b) c.loop-i.i l c.in_default-get.ensures)
 
 pub loop-i-preserved : goal.loop-i-preserved
 loop-i-preserved c =

@@ -4,7 +4,7 @@ use Rattle.values.specs.Rows.{used}
 use Rattle.verdict.specs.Judging.{every}
 use Rattle.check.proofs.Facts.{every_next, every_fails, nth_there}
 use Rattle.check.proofs.lists.all_are.Goals as goal
-use Rattle.check.proofs.lists.all_are.Goals.{in-Some+else-x-number, in-default}
+use Rattle.check.proofs.lists.all_are.Goals.{in-Some+else-x-number, in_default}
 
 pub returns-then-x-number : goal.returns-then-x-number
 returns-then-x-number c =
@@ -16,7 +16,7 @@ loop-i-preserved c =
     let l : c.loop-i.i < length (used c.args.a) = omega (arith, c.count-i-end.ensures) in
     elim c.match-get.branch [
       | in-Some+else-x-number w ↦ every_next c.args.number (used c.args.a) c.loop-i.i w.in-Some.x (sym w.in-Some.ensures) l c.loop-i.invariant w.if-x-number.false
-      | in-default w ↦ absurd (nth_there (used c.args.a) c.loop-i.i l w.in-default.ensures)
+      | in_default w ↦ absurd (nth_there (used c.args.a) c.loop-i.i l w.in_default.ensures)
     ]
 
 pub returns : goal.returns

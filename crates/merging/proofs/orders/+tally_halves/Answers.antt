@@ -12,7 +12,7 @@ returns-in-len1 g t c =
     let one : length c.args.parts.now ≡ 1 = search rules in
     tally_single g.met.O.Operator.lawful c.args.parts.now c.part-item.result c.tally.ensures c.part-item.is one
 
-pub returns-in-default : goal.returns-in-default
-returns-in-default g t c =
-    joined_lists g.met.O.Operator.lawful c.split-at.result.0.now c.split-at.result.1.now c.args.parts.now
-    c.join.ensures c.tally-halves.ensures c.tally-halves-in-default.ensures c.split-at.ensures.by_index.0 c.requires
+pub returns-in_default : goal.returns-in_default
+returns-in_default g t c =
+    joined_lists g.met.O.Operator.lawful c.split_at.result.0.now c.split_at.result.1.now c.args.parts.now
+    c.join.ensures c.tally_halves.ensures c.tally_halves-in_default.ensures c.split_at.ensures.by_index.0 c.requires

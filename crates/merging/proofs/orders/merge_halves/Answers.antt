@@ -3,4 +3,4 @@ use Rattle.merging.proofs.Steps.{closed}
 use Rattle.merging.proofs.orders.merge_halves.Goals as goal
 
 pub returns : goal.returns
-returns g c = record { means = closed g.O.Operator.is c.args.parts.now c.close.ensures c.tally-halves.ensures (omega arith) }
+returns g c = record { means = closed g.O.Operator.is c.args.parts.now c.close.ensures c.tally_halves.ensures (omega arith) }

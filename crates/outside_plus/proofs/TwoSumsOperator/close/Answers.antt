@@ -10,6 +10,6 @@ returns-else-tally-3 c n s h =
     let t = c.args.tally in
     let fa : SFits w64 c.args.tally.above = search rules in
     let fb : SFits w64 c.args.tally.below = search rules in
-    let whole = not_cut _ _ (both_fit n t s h) (simp to_z-of_z at c.saturating-add-sum.ensures) in
+    let whole = not_cut _ _ (both_fit n t s h) (simp to_z-of_z at c.saturating_add-sum.ensures) in
     let e : c.judge.result ≡ judged (c.args.tally.above +ℤ c.args.tally.below) = c.judge.ensures ∙ ap judged whole in
     search rules

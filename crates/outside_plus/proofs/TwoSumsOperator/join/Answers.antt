@@ -13,5 +13,5 @@ returns c m n s t h =
     let ga : SFits w64 c.args.a.above = search rules in
     let gb : SFits w64 c.args.b.above = search rules in
     added a b _ _
-    (not_cut _ _ (below_fits m n a b s t h) (simp to_z-of_z at c.saturating-add.ensures))
-    (not_cut _ _ (above_fits m n a b s t h) (simp to_z-of_z at c.saturating-add-2.ensures))
+    (not_cut _ _ (below_fits m n a b s t h) (simp to_z-of_z at c.saturating_add.ensures))
+    (not_cut _ _ (above_fits m n a b s t h) (simp to_z-of_z at c.saturating_add-2.ensures))

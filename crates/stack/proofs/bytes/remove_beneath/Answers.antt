@@ -5,6 +5,6 @@ use Rattle.stack.proofs.bytes.remove_beneath.Goals as goal
 pub returns : goal.returns
 returns c =
     record {
-      within = λ p q h. (refl, c.copy-within.ensures.after ∙ pasted c.args.store.now c.args.base c.args.from c.args.top h);
+      within = λ p q h. (refl, c.copy_within.ensures.after ∙ pasted c.args.store.now c.args.base c.args.from c.args.top h);
       beyond = λ h. absurd (h c.if-base-from.false c.if-from-top.false c.if-top-store.false);
     }

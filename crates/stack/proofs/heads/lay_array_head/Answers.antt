@@ -10,7 +10,7 @@ returns c =
     let low = to_z-of_z w32 c.get.result fits ∙ c.get.ensures in
     record {
       laid =
-          subst (λ xs. Laid c.args.store.now c.lay-bytes.new.store c.args.top xs c.lay-bytes.result)
-          (array_bytes c.args.low c.args.count _ c.to-be-bytes.result c.to-be-bytes-2.result low c.to-be-bytes.ensures c.to-be-bytes-2.ensures) c.lay-bytes.ensures;
+          subst (λ xs. Laid c.args.store.now c.lay_bytes.new.store c.args.top xs c.lay_bytes.result)
+          (array_bytes c.args.low c.args.count _ c.to_be_bytes.result c.to_be_bytes-2.result low c.to_be_bytes.ensures c.to_be_bytes-2.ensures) c.lay_bytes.ensures;
       heads = array_heads c.args.low c.args.count;
     }

@@ -5,8 +5,8 @@ use Rattle.stack.specs.Undefs.{undefs}
 use Rattle.stack.proofs.Undefs.{undef_bytes, undefs_long, undefs_none, undefs_more, over_none, over_over}
 use Rattle.stack.proofs.scalars.lay_undefs.Goals as goal
 
-pub returns-then-not-has-room : goal.returns-then-not-has-room
-returns-then-not-has-room c =
+pub returns-then-not-has_room : goal.returns-then-not-has_room
+returns-then-not-has_room c =
     let short : length c.args.store.now < c.args.top + 2 * c.args.count = search rules in
     (omega (arith, undefs_long c.args.count), refl)
 

@@ -10,4 +10,4 @@ returns c m n s t h =
     let b = c.args.b in
     let fa : SFits w64 c.args.a.sum = search rules in
     let fb : SFits w64 c.args.b.sum = search rules in
-    added a b _ (not_cut _ _ (sums_fit m n a b s t h) (simp to_z-of_z at c.saturating-add.ensures))
+    added a b _ (not_cut _ _ (sums_fit m n a b s t h) (simp to_z-of_z at c.saturating_add.ensures))

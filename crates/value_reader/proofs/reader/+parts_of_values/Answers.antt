@@ -9,14 +9,14 @@ use Rattle.value_reader.proofs.reader.+parts_of_values.Goals as goal
 
 -- elements
 
-pub elements-returns-in-err-end : goal.elements-returns-in-err-end
-elements-returns-in-err-end t c =
-    let p = err_from_is_err_and c.from-residual.result c.from-residual.ensures.1 in
-    rw (p.1, p.2) (repeated_fails c.args.count c.loop-i.-i _ c.loop-i.end _ c.loop-i-test.true c.loop-i.invariant _ c.in-err-end.ensures)
+pub elements-returns-in_err-end : goal.elements-returns-in_err-end
+elements-returns-in_err-end t c =
+    let p = err_from_is_err_and c.from_residual.result c.from_residual.ensures.1 in
+    rw (p.1, p.2) (repeated_fails c.args.count c.loop-i.-i _ c.loop-i.end _ c.loop-i-test.true c.loop-i.invariant _ c.in_err-end.ensures)
 
 pub elements-loop-i-preserved : goal.elements-loop-i-preserved
 elements-loop-i-preserved t c =
-    repeated_next c.args.count c.loop-i.-i _ c.loop-i.end _ c.loop-i-test.true c.loop-i.invariant _ c.in-ok-end.ensures
+    repeated_next c.args.count c.loop-i.-i _ c.loop-i.end _ c.loop-i-test.true c.loop-i.invariant _ c.in_ok-end.ensures
 
 -- parts
 
@@ -25,10 +25,10 @@ parts-value-requires t c =
     let m : c.in-Some.member < c.args.number = nth_below c.args.number (used c.args.members) c.loop-member.index c.in-Some.member c.requires.1 (sym c.in-Some.ensures) in
     (search rules, omega (arith, c.requires.0))
 
-pub parts-returns-in-err-end : goal.parts-returns-in-err-end
-parts-returns-in-err-end t c =
-    let p = err_from_is_err_and c.from-residual.result c.from-residual.ensures.1 in
-    rw (p.1, p.2) (reads_fails _ _ c.loop-member.index c.in-Some.member _ c.loop-member.end _ c.in-Some.ensures c.loop-member.invariant.1 _ c.in-err-end.ensures)
+pub parts-returns-in_err-end : goal.parts-returns-in_err-end
+parts-returns-in_err-end t c =
+    let p = err_from_is_err_and c.from_residual.result c.from_residual.ensures.1 in
+    rw (p.1, p.2) (reads_fails _ _ c.loop-member.index c.in-Some.member _ c.loop-member.end _ c.in-Some.ensures c.loop-member.invariant.1 _ c.in_err-end.ensures)
 
 pub parts-loop-member-smaller : goal.parts-loop-member-smaller
 parts-loop-member-smaller t c = omega (arith, (nth_here (used c.args.members) c.loop-member.index _ 0 (sym c.in-Some.ensures)).0)
@@ -36,12 +36,12 @@ parts-loop-member-smaller t c = omega (arith, (nth_here (used c.args.members) c.
 pub parts-loop-member-preserved : goal.parts-loop-member-preserved
 parts-loop-member-preserved t c = (
   omega (arith, (nth_here (used c.args.members) c.loop-member.index _ 0 (sym c.in-Some.ensures)).0),
-  reads_next _ _ c.loop-member.index c.in-Some.member _ c.loop-member.end _ c.in-Some.ensures c.loop-member.invariant.1 _ c.in-ok-end.ensures,
+  reads_next _ _ c.loop-member.index c.in-Some.member _ c.loop-member.end _ c.in-Some.ensures c.loop-member.invariant.1 _ c.in_ok-end.ensures,
 )
 
 pub parts-returns : goal.parts-returns
 parts-returns t c =
-    sym (reads_none _ _ c.loop-member.index _ c.loop-member.end c.loop-member.invariant.0 (sym c.in-default.ensures)) ∙ c.loop-member.invariant.1
+    sym (reads_none _ _ c.loop-member.index _ c.loop-member.end c.loop-member.invariant.0 (sym c.in_default.ensures)) ∙ c.loop-member.invariant.1
 
 -- union
 
@@ -52,13 +52,13 @@ union-value-requires t c =
 
 pub union-returns-in-Some-get : goal.union-returns-in-Some-get
 union-returns-in-Some-get t c =
-    union_some (table (rows_of c.args.types.now)) (used c.args.constituents) c.args.bytes.now c.args.at c.in-ok-end.field-0
-    c.in-ok-end.ensures.opens c.in-default.is c.in-Some-get.constituent c.value.result c.in-Some-get.ensures c.value.ensures
+    union_some (table (rows_of c.args.types.now)) (used c.args.constituents) c.args.bytes.now c.args.at c.in_ok-end.field-0
+    c.in_ok-end.ensures.opens c.in_default.is c.in-Some-get.constituent c.value.result c.in-Some-get.ensures c.value.ensures
 
 pub union-returns-in-None : goal.union-returns-in-None
 union-returns-in-None t c =
-    union_none (table (rows_of c.args.types.now)) (used c.args.constituents) c.args.bytes.now c.args.at c.in-ok-end.field-0
-    c.in-ok-end.ensures.opens c.in-default.is c.in-None.ensures
+    union_none (table (rows_of c.args.types.now)) (used c.args.constituents) c.args.bytes.now c.args.at c.in_ok-end.field-0
+    c.in_ok-end.ensures.opens c.in_default.is c.in-None.ensures
 
 -- composed
 

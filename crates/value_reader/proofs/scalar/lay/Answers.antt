@@ -4,4 +4,4 @@ use Rattle.value_reader.proofs.scalar.lay.Goals as goal
 
 pub returns : goal.returns
 returns c =
-    (omega arith, refl, laid_over c.args.bytes.now c.args.source.now c.copy-from-slice.new.self c.args.at c.copy-from-slice.ensures.after)
+    (omega arith, refl, laid_over c.args.bytes.now c.args.source.now c.copy_from_slice.new.self c.args.at c.copy_from_slice.ensures.after)

@@ -8,7 +8,7 @@ pub returns-in-Proper : goal.returns-in-Proper
 returns-in-Proper c =
     let fits : SFits w32 c.get.result = search rules in
     subst (λ xs. Laid c.args.bytes.now c.lay.new.bytes c.args.at xs c.lay.result)
-    (number_bytes c.args.value c.in-Proper.number _ c.to-be-bytes.result c.in-Proper.is (to_z-of_z w32 c.get.result fits ∙ c.get.ensures) c.to-be-bytes.ensures) c.lay.ensures
+    (number_bytes c.args.value c.in-Proper.number _ c.to_be_bytes.result c.in-Proper.is (to_z-of_z w32 c.get.result fits ∙ c.get.ensures) c.to_be_bytes.ensures) c.lay.ensures
 
 pub returns-in-Error : goal.returns-in-Error
 returns-in-Error c =

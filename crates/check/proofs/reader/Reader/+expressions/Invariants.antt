@@ -30,20 +30,20 @@ decreases-done l = 8 * (length l.bytes.now - l.self.now.at) + 1
 abbrev pub decreases-end : goal.decreases-end
 decreases-end l = 8 * (length l.bytes.now - l.self.now.at) + 2
 
-abbrev pub decreases-end-arm : goal.decreases-end-arm
-decreases-end-arm l = 8 * (length l.bytes.now - l.self.now.at) + 4
+abbrev pub decreases-end_arm : goal.decreases-end_arm
+decreases-end_arm l = 8 * (length l.bytes.now - l.self.now.at) + 4
 
-abbrev pub decreases-end-if : goal.decreases-end-if
-decreases-end-if l = 8 * (length l.bytes.now - l.self.now.at) + 6
+abbrev pub decreases-end_if : goal.decreases-end_if
+decreases-end_if l = 8 * (length l.bytes.now - l.self.now.at) + 6
 
-abbrev pub decreases-end-let : goal.decreases-end-let
-decreases-end-let l = 8 * (length l.bytes.now - l.self.now.at) + 6
+abbrev pub decreases-end_let : goal.decreases-end_let
+decreases-end_let l = 8 * (length l.bytes.now - l.self.now.at) + 6
 
-abbrev pub decreases-end-parts : goal.decreases-end-parts
-decreases-end-parts l = 8 * (length l.bytes.now - l.self.now.at) + 7
+abbrev pub decreases-end_parts : goal.decreases-end_parts
+decreases-end_parts l = 8 * (length l.bytes.now - l.self.now.at) + 7
 
-abbrev pub decreases-end-tag : goal.decreases-end-tag
-decreases-end-tag l = 8 * (length l.bytes.now - l.self.now.at) + 6
+abbrev pub decreases-end_tag : goal.decreases-end_tag
+decreases-end_tag l = 8 * (length l.bytes.now - l.self.now.at) + 6
 
 abbrev pub decreases-ends : goal.decreases-ends
 decreases-ends l = 8 * (length l.bytes.now - l.self.now.at) + 5

@@ -6,7 +6,7 @@ use Rattle.check.proofs.reader.Reader.call_head.Goals as goal
 
 pub returns-then-function-len : goal.returns-then-function-len
 returns-then-function-len c =
-    let W = c.in-ok-whole.ensures in
+    let W = c.in_ok-whole.ensures in
     let fs = c.args.tables.now.functions in
     let l : get_or c.args.bytes.now (c.args.start + 1) 0 < length (seen_all (vec_items fs)) =
     omega (arith, length-map (vec_items fs) seen, fs.ok.0, c.len.ensures, c.if-function-len.true) in
@@ -14,7 +14,7 @@ returns-then-function-len c =
 
 pub returns-else-function-len : goal.returns-else-function-len
 returns-else-function-len c =
-    let W = c.in-ok-whole.ensures in
+    let W = c.in_ok-whole.ensures in
     let fs = c.args.tables.now.functions in
     let l : length (seen_all (vec_items fs)) ≤ get_or c.args.bytes.now (c.args.start + 1) 0 =
     omega (arith, length-map (vec_items fs) seen, fs.ok.0, c.len.ensures, c.if-function-len.false) in

@@ -10,11 +10,11 @@ loop-i-init c =
     let z : c.args.count ≡ c.args.count - 0 = omega arith in
     (refl, refl, ap (λ k. rows_at k c.args.bytes.now (rows_of c.args.tables.now.types) c.args.self.now.at) z)
 
-pub returns-in-err-row : goal.returns-in-err-row
-returns-in-err-row c =
-    let p = err_from_is_err_and c.from-residual.result c.from-residual.ensures.1 in
+pub returns-in_err-row : goal.returns-in_err-row
+returns-in_err-row c =
+    let p = err_from_is_err_and c.from_residual.result c.from_residual.ensures.1 in
     let I = c.loop-i.invariant in
-    let B = c.in-err-row.ensures in
+    let B = c.in_err-row.ensures in
     record {
       kept = B.kept ∙ I.0;
       functions = I.1;
@@ -24,11 +24,11 @@ returns-in-err-row c =
 pub loop-i-preserved : goal.loop-i-preserved
 loop-i-preserved c =
     let I = c.loop-i.invariant in
-    let R = c.in-ok-row.ensures in
+    let R = c.in_ok-row.ensures in
     let P = c.in-Ok.ensures in (
       R.kept ∙ I.0,
       I.1,
-      rowing_more c.args.count c.args.bytes.now (rows_of c.args.tables.now.types) c.args.self.now.at c.loop-i.-i _ _ _ _ c.in-ok-row.row I.2 c.loop-i-test.true R.reads P.3,
+      rowing_more c.args.count c.args.bytes.now (rows_of c.args.tables.now.types) c.args.self.now.at c.loop-i.-i _ _ _ _ c.in_ok-row.row I.2 c.loop-i-test.true R.reads P.3,
     )
 
 pub returns : goal.returns

@@ -8,12 +8,12 @@ use Rattle.verdict.proofs.Each.{Going, going_more}
 use Rattle.check.proofs.Facts.{zeros_next, going_declines, filled}
 use Rattle.check.proofs.reader.Reader.uses.Goals as goal
 
-pub returns-in-err-number : goal.returns-in-err-number
+pub returns-in_err-number : goal.returns-in_err-number
 unfolding uses_at
-returns-in-err-number c =
-    let p = err_from_is_err_and c.from-residual.result c.from-residual.ensures.1 in
+returns-in_err-number c =
+    let p = err_from_is_err_and c.from_residual.result c.from_residual.ensures.1 in
     let I = c.loop-i.invariant in
-    let B = c.in-err-number.ensures in
+    let B = c.in_err-number.ensures in
     record {
       kept = B.kept ∙ I.0;
       forward = omega (arith, I.1, B.forward);
@@ -23,17 +23,17 @@ returns-in-err-number c =
 pub loop-i-preserved : goal.loop-i-preserved
 loop-i-preserved c =
     let I = c.loop-i.invariant in
-    let N = c.in-ok-number.ensures in
+    let N = c.in_ok-number.ensures in
     let xs = c.loop-i.numbers in
     let i = c.loop-i.i in
     let f : Unit {0} → ℕ → Out ℕ = λ _ q. use_at (c.args.rows + 2) c.args.bytes.now q in
     let l : i < length xs = omega (arith, I.2) in (
       N.kept ∙ I.0,
       omega (arith, I.1, N.forward),
-      length-set xs i c.in-ok-number.number ∙ I.2,
-      zeros_next xs i c.in-ok-number.number I.3,
-      subst (λ z. Going f (replicate c.args.n tt) c.args.self.now.at (i + 1) z c.type-use.new.self.at) (sym (take_more_set xs i c.in-ok-number.number l))
-          (going_more f (replicate c.args.n tt) c.args.self.now.at i c.loop-i.self.at c.type-use.new.self.at tt c.in-ok-number.number (take i xs) (omega (arith, length-replicate {A = Unit {0}} c.args.n tt)) N.reads I.4),
+      length-set xs i c.in_ok-number.number ∙ I.2,
+      zeros_next xs i c.in_ok-number.number I.3,
+      subst (λ z. Going f (replicate c.args.n tt) c.args.self.now.at (i + 1) z c.type_use.new.self.at) (sym (take_more_set xs i c.in_ok-number.number l))
+          (going_more f (replicate c.args.n tt) c.args.self.now.at i c.loop-i.self.at c.type_use.new.self.at tt c.in_ok-number.number (take i xs) (omega (arith, length-replicate {A = Unit {0}} c.args.n tt)) N.reads I.4),
     )
 
 pub returns : goal.returns

@@ -8,13 +8,13 @@ use Rattle.check.proofs.reader.heads.number_from.Goals as goal
 
 pub returns-in-Some : goal.returns-in-Some
 returns-in-Some c =
-    let z = c.from-be-bytes.result in
+    let z = c.from_be_bytes.result in
     let f : SFits w32 z = search rules in
-    sym (ap (λ (y : ℤ). proper_in (judged y)) (sym c.from-be-bytes.ensures) ∙ ap proper_in (judged_proper z c.in-Some.number (c.in-Some.ensures ∙ to_z-of_z w32 z f)))
+    sym (ap (λ (y : ℤ). proper_in (judged y)) (sym c.from_be_bytes.ensures) ∙ ap proper_in (judged_proper z c.in-Some.number (c.in-Some.ensures ∙ to_z-of_z w32 z f)))
 
 pub returns-in-None : goal.returns-in-None
 returns-in-None c =
-    let z = c.from-be-bytes.result in
+    let z = c.from_be_bytes.result in
     let f : SFits w32 z = search rules in
     let e : z ≡ negsuc 2147483647 = sym (to_z-of_z w32 z f) ∙ c.in-None.ensures in
-    sym (ap (λ (y : ℤ). proper_in (judged y)) (sym c.from-be-bytes.ensures) ∙ ap proper_in (judged_below z (omega (arith, ints))))
+    sym (ap (λ (y : ℤ). proper_in (judged y)) (sym c.from_be_bytes.ensures) ∙ ap proper_in (judged_below z (omega (arith, ints))))

@@ -7,17 +7,17 @@ use Rattle.check.proofs.reader.rows.is_twin.Goals as goal
 pub loop-number-init : goal.loop-number-init
 loop-number-init c = refl
 
-pub returns-in-default : goal.returns-in-default
-returns-in-default c =
-    twin_none (rows_of c.args.types.now) c.args.row c.loop-number.number c.loop-number.auto.number c.in-default.ensures c.loop-number.invariant
+pub returns-in_default : goal.returns-in_default
+returns-in_default c =
+    twin_none (rows_of c.args.types.now) c.args.row c.loop-number.number c.loop-number.auto.number c.in_default.ensures c.loop-number.invariant
 
-pub returns-then-are-twins : goal.returns-then-are-twins
-returns-then-are-twins c =
-    twin_found (rows_of c.args.types.now) c.args.row c.in-Some.earlier c.loop-number.number c.loop-number.auto.number c.in-Some.ensures (sym c.if-are-twins.true ∙ c.are-twins.ensures)
+pub returns-then-are_twins : goal.returns-then-are_twins
+returns-then-are_twins c =
+    twin_found (rows_of c.args.types.now) c.args.row c.in-Some.earlier c.loop-number.number c.loop-number.auto.number c.in-Some.ensures (sym c.if-are_twins.true ∙ c.are_twins.ensures)
 
 pub loop-number-preserved : goal.loop-number-preserved
 loop-number-preserved c =
-    twin_next (rows_of c.args.types.now) c.args.row c.in-Some.earlier c.loop-number.number c.loop-number.auto.number c.in-Some.ensures c.loop-number.invariant (sym c.if-are-twins.false ∙ c.are-twins.ensures)
+    twin_next (rows_of c.args.types.now) c.args.row c.in-Some.earlier c.loop-number.number c.loop-number.auto.number c.in-Some.ensures c.loop-number.invariant (sym c.if-are_twins.false ∙ c.are_twins.ensures)
 
 pub returns : goal.returns
 returns c =

@@ -5,15 +5,15 @@ use Rattle.check.specs.Views.{names}
 use Rattle.check.proofs.Facts.{nth_there, front_next, front_long}
 use Rattle.check.proofs.scope.Scope.with_all.Goals as goal
 
-pub returns-in-default : goal.returns-in-default
-returns-in-default c =
+pub returns-in_default : goal.returns-in_default
+returns-in_default c =
     let l : c.loop-i.i < length (used c.args.more) = omega (arith, c.count-i-end.ensures) in
-    absurd (nth_there (used c.args.more) c.loop-i.i l c.in-default.ensures)
+    absurd (nth_there (used c.args.more) c.loop-i.i l c.in_default.ensures)
 
-pub returns-in-default-with : goal.returns-in-default-with
-returns-in-default-with c =
+pub returns-in_default-with : goal.returns-in_default-with
+returns-in_default-with c =
     let l : c.loop-i.i < length (used c.args.more) = omega (arith, c.count-i-end.ensures) in
-    omega (arith, c.in-default-with.ensures, front_long (names c.loop-i.scope) (names c.args.self.now) (used c.args.more) c.loop-i.i (omega arith) c.loop-i.invariant.0)
+    omega (arith, c.in_default-with.ensures, front_long (names c.loop-i.scope) (names c.args.self.now) (used c.args.more) c.loop-i.i (omega arith) c.loop-i.invariant.0)
 
 pub loop-i-preserved : goal.loop-i-preserved
 loop-i-preserved c =

@@ -1,4 +1,3 @@
-use Rattle.std.proofs.Common.{arith}
 use Rattle.values.proofs.Uses.{used_nth, used_past}
 use Rattle.values.proofs.members.Members.get.Goals as goal
 

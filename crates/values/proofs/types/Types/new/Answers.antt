@@ -3,5 +3,5 @@ use Rattle.values.specs.Rows.{sound}
 use Rattle.values.proofs.Soundness.{sound_none}
 use Rattle.values.proofs.types.Types.new.Goals as goal
 
-pub invariant-of-result : goal.invariant-of-result
-invariant-of-result c = (ap sound c.new-rows.ensures.items ∙ sound_none, tt)
+pub invariant_of-result : goal.invariant_of-result
+invariant_of-result c = record { lawful = ap sound c.new-rows.ensures.items ∙ sound_none }
