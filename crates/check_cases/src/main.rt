@@ -1,6 +1,6 @@
 // Checks the module that each line of the input has in hexadecimal, and prints what the check says.
 // `stdin` and `stdout` are written by tools/check_cases.py, which knows the rules and not this code.
-use check::check;
+use module_check::check;
 use language::Program;
 use value_text::parse_bytes;
 

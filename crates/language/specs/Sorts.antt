@@ -102,22 +102,22 @@ operand AtLeast = 1
 operand And = 0
 operand Or = 0
 
-abbrev pub result : Binary → ℕ
-result Plus = 1
-result Minus = 1
-result Times = 1
-result Divide = 1
-result Modulo = 1
-result Max = 1
-result Min = 1
-result Equal = 0
-result Unequal = 0
-result Less = 0
-result AtMost = 0
-result Greater = 0
-result AtLeast = 0
-result And = 0
-result Or = 0
+abbrev pub result_of : Binary → ℕ
+result_of Plus = 1
+result_of Minus = 1
+result_of Times = 1
+result_of Divide = 1
+result_of Modulo = 1
+result_of Max = 1
+result_of Min = 1
+result_of Equal = 0
+result_of Unequal = 0
+result_of Less = 0
+result_of AtMost = 0
+result_of Greater = 0
+result_of AtLeast = 0
+result_of And = 0
+result_of Or = 0
 
 -- The type of the parts that a merge takes, and that of what it makes of them.
 abbrev pub part_type : List Row → Merge → Option ℕ

@@ -6,7 +6,7 @@ use Rattle.values.specs.declared.row.Row.{Row}
 use Rattle.values.specs.declared.row.Row.TheVariants as rows
 use Rattle.values.specs.Rows.{used, all_below, uses}
 use Rattle.language.specs.Syntax.{Expr, Exprs, LoopEnd, LoopEnds, Function, Module, list, integer, boolean, error, name, unary, binary, if, let_in, tagcase, for, forall, call, record_of, field, union, array, element, none, ◌then◌, iter, done, if_end, let_end, tagcase_end, no_ends, ◌or◌, count}
-use Rattle.language.specs.Sorts.{declared, element_of, fields_of, tags_of, has_fault, takes, gives, operand, result, part_type, merged_type, has_twin}
+use Rattle.language.specs.Sorts.{declared, element_of, fields_of, tags_of, has_fault, takes, gives, operand, result_of, part_type, merged_type, has_twin}
 
 -- What a function's callers see: the types of its parameters and of its results.
 pub record Signature : Type 0 where
@@ -73,7 +73,7 @@ unfoldable mutual
   Types C (error f t) Γ ts = (declared C.rows t ≡ true) × (has_fault t f ≡ true) × (ts ≡ t ∷ [])
   Types C (name n) Γ ts = (t : ℕ) × (slice_get Γ n ≡ Some t) × (ts ≡ t ∷ [])
   Types C (unary op a) Γ ts = (t : ℕ) × Types C a Γ (t ∷ []) × (takes C.rows op t ≡ true) × (ts ≡ gives op ∷ [])
-  Types C (binary op a b) Γ ts = Types C a Γ (operand op ∷ []) × Types C b Γ (operand op ∷ []) × (ts ≡ result op ∷ [])
+  Types C (binary op a b) Γ ts = Types C a Γ (operand op ∷ []) × Types C b Γ (operand op ∷ []) × (ts ≡ result_of op ∷ [])
   Types C (if test taken other) Γ ts = Types C test Γ (0 ∷ []) × Types C taken Γ ts × Types C other Γ ts
   Types C (let_in definition body) Γ ts =
       (us : List ℕ) × Types C definition Γ us × (length Γ + length us ≤ 96) × Types C body (Γ ++ us) ts

@@ -25,7 +25,7 @@ use Rattle.language.specs.declared.operation.Binary.{Binary}
 use Rattle.language.specs.declared.operation.Binary.TheVariants as binary
 use Rattle.language.specs.declared.merge.Merge.{Merge}
 use Rattle.language.specs.declared.merge.Merge.TheVariants.{Collect, Integers, Booleans}
-use Rattle.language.specs.Sorts.{basic, has_fault, gives, result, part_type, merged_type, element_of, fields_of, tags_of}
+use Rattle.language.specs.Sorts.{basic, has_fault, gives, result_of, part_type, merged_type, element_of, fields_of, tags_of}
 use Rattle.language.specs.Typing.{Every}
 use Rattle.meaning.specs.Operations.{undef, array_fact, unary_result, binary_result}
 use Rattle.meaning.specs.Evaluation.{undefs, first, single, field_of, at_place, element_at, array_from, array_at, not_negative, span}
@@ -177,7 +177,7 @@ module _ (rows : List Row) where
   unary_has unary.Highest v = fact_has _ v
   unary_has unary.Size v = fact_has _ v
 
-  pub binary_has : (op : Binary) (v w : Value) → Has (result op) (binary_result op v w)
+  pub binary_has : (op : Binary) (v w : Value) → Has (result_of op) (binary_result op v w)
   unfolding binary_result
   binary_has binary.Plus v w = integer_has _
   binary_has binary.Minus v w = integer_has _

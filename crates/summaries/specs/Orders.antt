@@ -23,8 +23,8 @@ abbrev pub Agrees : ThreeOrders → Type 0
 Agrees t = (t.front ≡ t.back) × (t.front ≡ t.halves)
 
 -- Up to 32,768 readings each order gives the operator's meaning; more are refused.
-abbrev pub ThreeOrders : {Tally : Type 0} → Definition Integer Tally Integer → List Integer → Result ThreeOrders TooManyParts → Type 0
-ThreeOrders d ps r =
+abbrev pub MergedThreeWays : {Tally : Type 0} → Definition Integer Tally Integer → List Integer → Result ThreeOrders TooManyParts → Type 0
+MergedThreeWays d ps r =
     MatchResult r
     (λ t. (length ps ≤ most) × (t.front ≡ meaning d ps) × (t.back ≡ meaning d ps) × (t.halves ≡ meaning d ps))
     (λ _. most < length ps)

@@ -1,6 +1,6 @@
 // What a column of readings comes to: merged in three orders, and, for comparison, by repeated +.
 ghost use Rattle.std.specs.Prelude.{◌≡◌, Decides};
-ghost use Rattle.summaries.specs.Orders.{Agrees, ThreeOrders, from_first, from_last};
+ghost use Rattle.summaries.specs.Orders.{Agrees, MergedThreeWays, from_first, from_last};
 
 use arithmetic::plus;
 use merging::{Operator, TooManyParts, merge, merge_backwards, merge_halves};
@@ -28,7 +28,7 @@ impl ThreeOrders {
 pub fn merge_in_three_orders<O: Operator<Part = Integer, Closed = Integer>>(
     readings: &[Integer],
 ) -> Result<ThreeOrders, TooManyParts>
-    ensures { ThreeOrders O.Operator.is readings.now result }
+    ensures { MergedThreeWays O.Operator.is readings.now result }
 {
     let front = merge::<O>(readings)?;
     let back = merge_backwards::<O>(readings)?;

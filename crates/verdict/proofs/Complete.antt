@@ -34,7 +34,7 @@ use Rattle.language.specs.declared.node.Two.{Two}
 use Rattle.language.specs.declared.node.Two.TheVariants as two
 use Rattle.language.specs.Syntax.{Expr, Exprs, LoopEnd, LoopEnds, list, integer, boolean, error, name, unary, binary, if, let_in, tagcase, for, forall, call, record_of, field, union, array, element, none, ◌then◌, iter, done, if_end, let_end, tagcase_end, no_ends, ◌or◌, count, count_ends}
 use Rattle.language.specs.Encoding.{encode_expr, encode_all, encode_end, encode_ends, encode_uses, merge_code, merge_type, unary_code, binary_code}
-use Rattle.language.specs.Sorts.{declared, present, same, has_fault, takes, gives, operand, result, element_of, fields_of, tags_of, element_in, fields_in, tags_in, part_type, merged_type}
+use Rattle.language.specs.Sorts.{declared, present, same, has_fault, takes, gives, operand, result_of, element_of, fields_of, tags_of, element_in, fields_in, tags_in, part_type, merged_type}
 use Rattle.language.specs.Typing.{Context, Signature, Few, Every, Plain, Types, MembersTypes, ArmsTypes, EndTypes, EndsTypes, depth, depth_all, depth_end, depth_ends}
 use Rattle.verdict.specs.declared.kinds.Sort.{Sort}
 use Rattle.verdict.specs.declared.kinds.Sort.TheVariants as sort

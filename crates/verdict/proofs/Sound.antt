@@ -15,7 +15,7 @@ use Rattle.language.specs.declared.node.Two.{Two}
 use Rattle.language.specs.declared.node.Two.TheVariants as two
 use Rattle.language.specs.Syntax.{Expr, Exprs, LoopEnd, LoopEnds, list, integer, boolean, error, name, unary, binary, if, let_in, tagcase, for, forall, call, record_of, field, union, array, element, none, ◌then◌, iter, done, if_end, let_end, tagcase_end, no_ends, ◌or◌, count, count_ends}
 use Rattle.language.specs.Encoding.{encode_expr, encode_all, encode_end, encode_ends, encode_uses}
-use Rattle.language.specs.Sorts.{present, same, takes, gives, operand, result, element_of, fields_of, tags_of, merged_type}
+use Rattle.language.specs.Sorts.{present, same, takes, gives, operand, result_of, element_of, fields_of, tags_of, merged_type}
 use Rattle.language.specs.Typing.{Context, Few, Every, Plain, Types, MembersTypes, ArmsTypes, EndTypes, EndsTypes, depth, depth_all, depth_end, depth_ends}
 use Rattle.verdict.specs.declared.kinds.Sort.{Sort}
 use Rattle.verdict.specs.declared.kinds.Sort.TheVariants as sort
@@ -140,7 +140,7 @@ two_depth two.Element a b = refl
 two_types : (C : Context) (Γ : List ℕ) (o : Two) (a b : Expr) (us vs : List ℕ) (p q : ℕ) (ts : List ℕ) (r : ℕ) → Types C a Γ us → Types C b Γ vs → judge_two C o us vs p q ≡ accepted ts r → Types C (two_tree o a b) Γ ts × (q ≡ r)
 unfolding Types
 two_types C Γ (two.Binary op) a b us vs p q ts r s t h =
-    let j = judged_inv (Clash p) (same (operand op ∷ []) us && same (operand op ∷ []) vs) (result op ∷ []) q ts r h in
+    let j = judged_inv (Clash p) (same (operand op ∷ []) us && same (operand op ∷ []) vs) (result_of op ∷ []) q ts r h in
     let k = and_parts (same (operand op ∷ []) us) (same (operand op ∷ []) vs) j.0 in
     ((retyped C Γ a us (operand op ∷ []) (same_true _ us k.0) s, retyped C Γ b vs (operand op ∷ []) (same_true _ vs k.1) t, sym j.1), j.2)
 two_types C Γ (two.Array n) a b us vs p q ts r s t h =

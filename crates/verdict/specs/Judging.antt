@@ -8,7 +8,7 @@ use Rattle.language.specs.declared.node.One.TheVariants as one
 use Rattle.language.specs.declared.node.Two.{Two}
 use Rattle.language.specs.declared.node.Two.TheVariants as two
 use Rattle.language.specs.Syntax.{Expr, Exprs, LoopEnd, LoopEnds, none, ◌then◌, no_ends, ◌or◌}
-use Rattle.language.specs.Sorts.{present, element_of, fields_of, tags_of, takes, gives, operand, result, same}
+use Rattle.language.specs.Sorts.{present, element_of, fields_of, tags_of, takes, gives, operand, result_of, same}
 use Rattle.language.specs.Typing.{Context, Signature}
 use Rattle.verdict.specs.Outcomes.{Out, accepted, refused, after, judged, passes, found}
 
@@ -79,7 +79,7 @@ judge_one C (one.Union t tag) ts p q = judged (Clash p) (is_one (tag_in (tags_of
 
 -- The types of the record at p with two parts, whose values have the types ts and us.
 abbrev pub judge_two : Context → Two → List ℕ → List ℕ → ℕ → ℕ → Out (List ℕ)
-judge_two C (two.Binary op) ts us p q = judged (Clash p) (same (operand op ∷ []) ts && same (operand op ∷ []) us) (result op ∷ []) q
+judge_two C (two.Binary op) ts us p q = judged (Clash p) (same (operand op ∷ []) ts && same (operand op ∷ []) us) (result_of op ∷ []) q
 judge_two C (two.Array t) ts us p q = judged (Clash p) (same (1 ∷ []) ts && all_of (element_of C.rows t) us) (t ∷ []) q
 judge_two C two.Element ts us p q =
     after (found (Clash p) (of_one (element_of C.rows) ts) q) λ t q. judged (Clash p) (same (1 ∷ []) us) (t ∷ []) q

@@ -12,11 +12,11 @@ use Rattle.value_reader.proofs.reader.+parts_of_values.Goals as goal
 pub elements-returns-in_err-end : goal.elements-returns-in_err-end
 elements-returns-in_err-end t c =
     let p = err_from_is_err_and c.from_residual.result c.from_residual.ensures.1 in
-    rw (p.1, p.2) (repeated_fails c.args.count c.loop-i.-i _ c.loop-i.end _ c.loop-i-test.true c.loop-i.invariant _ c.in_err-end.ensures)
+    rw (p.1, p.2) (repeated_fails c.args.count c.loop-i._i _ c.loop-i.end _ c.loop-i-test.true c.loop-i.invariant _ c.in_err-end.ensures)
 
 pub elements-loop-i-preserved : goal.elements-loop-i-preserved
 elements-loop-i-preserved t c =
-    repeated_next c.args.count c.loop-i.-i _ c.loop-i.end _ c.loop-i-test.true c.loop-i.invariant _ c.in_ok-end.ensures
+    repeated_next c.args.count c.loop-i._i _ c.loop-i.end _ c.loop-i-test.true c.loop-i.invariant _ c.in_ok-end.ensures
 
 -- parts
 

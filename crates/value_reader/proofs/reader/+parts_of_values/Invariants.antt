@@ -29,7 +29,7 @@ decreases-union l = 4 * l.number + 1
 -- What is left to read gives what the whole gives.
 abbrev pub invariant-elements-loop-i : goal.invariant-elements-loop-i
 invariant-elements-loop-i l =
-    repeated (l.count - l.-i) (read (tree_at (rows_of l.types) l.element) l.bytes) l.end
+    repeated (l.count - l._i) (read (tree_at (rows_of l.types) l.element) l.bytes) l.end
     ≡ repeated l.count (read (tree_at (rows_of l.types) l.element) l.bytes) l.at
 
 abbrev pub invariant-parts-loop-member : goal.invariant-parts-loop-member

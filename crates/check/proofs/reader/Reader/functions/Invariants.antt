@@ -1,9 +1,0 @@
-use Rattle.std.proofs.Common.{◌≡◌, vec_items}
-use Rattle.values.specs.Tables.{rows_of}
-use Rattle.check.proofs.ModuleFacts.{Defining}
-use Rattle.check.proofs.reader.Reader.functions.Given as goal
-
-abbrev pub invariant-loop-i : goal.invariant-loop-i
-invariant-loop-i l =
-    (l.tables.types ≡ l.initial.tables.types)
-    × Defining l.count (rows_of l.initial.tables.types) l.bytes l.initial.self.at l.-i (vec_items l.tables.functions) (vec_items l.self.nodes) l.self.at

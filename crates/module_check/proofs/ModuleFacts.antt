@@ -1,0 +1,181 @@
+-- Reading rows and functions one behind the other.
+use Rattle.std.proofs.Common.{◌≡◌, ℕ, zero, suc, ◌+◌, ◌-◌, ◌<◌, ◌≤◌, Bool, true, false, cond, ◌&&◌, ◌||◌, ltb, List, [], ◌∷◌, ◌++◌, map, length, get_or, take, drop, Some, None, Option, sym, refl, ap, ◌∙◌, subst, ap₂, arith, length-append}
+use Rattle.std.specs.List.{slice_get}
+use Rattle.std.proofs.lemmas.List.{append_assoc, append-nil, take_more, take_all, map-append, length-map}
+use Rattle.std.proofs.lemmas.Option.{slice_get-get_or, slice_get_past}
+use Rattle.std.proofs.lemmas.Bool.{le-ltb, le-leb, eq-eqb}
+use Rattle.std.proofs.lemmas.Bool.Decides.{nat_tests}
+use Rattle.values.specs.declared.row.Row.{Row}
+use Rattle.values.specs.Rows.{used}
+use Rattle.values.specs.Tables.{row_of}
+use Rattle.language.specs.declared.function.Function as code
+use Rattle.language.specs.declared.node.Node.{Node}
+use Rattle.language.specs.Syntax.{Expr, Function}
+use Rattle.language.specs.Sorts.{same, twins, has_twin}
+use Rattle.language.specs.Typing.{Context, Signature, signature, signatures, context, result_counts}
+use Rattle.language.specs.Tables.{flat, Entry, entry, said, entries, nodes_of}
+use Rattle.verdict.specs.Outcomes.{Out, accepted, refused, after, first_at, whole, body}
+use Rattle.verdict.specs.Bodies.{few, uses_at}
+use Rattle.verdict.specs.Judging.{typed}
+use Rattle.verdict.specs.Expressions.{expr}
+use Rattle.verdict.specs.Modules.{row_at, rows_at, function_at, functions_at, module_at}
+use Rattle.verdict.proofs.Spans.{not_none}
+use Rattle.verdict.proofs.SoundModules.{signatures_push}
+use Rattle.module_check.specs.declared.stop.Stop.{Stop}
+use Rattle.module_check.specs.Views.{seen, seen_all}
+use Rattle.module_check.specs.Reading.{Declines}
+use Rattle.module_check.proofs.Facts.{declines_after}
+
+-- Twins.
+twin_append : (xs ys : List Row) (r : Row) → has_twin (xs ++ ys) r ≡ (has_twin xs r || has_twin ys r)
+twin_append [] ys r = refl
+twin_append (x ∷ xs) ys r = let h = twin_append xs ys r in grind (arith, nat_tests)
+
+pub row_there : (rows : List Row) (n : ℕ) → 2 ≤ n → row_of rows n ≡ slice_get rows (n - 2)
+row_there rows n h = ap (λ b. cond b None (slice_get rows (n - 2))) (le-ltb n 2 h)
+
+nth_some : (rows : List Row) (i : ℕ) (q : Row) → slice_get rows i ≡ Some q → i < length rows
+nth_some [] i q h = absurd (not_none q h)
+nth_some (x ∷ rows) zero q h = omega arith
+nth_some (x ∷ rows) (suc i) q h = omega (arith, nth_some rows i q h)
+
+nth_none : (rows : List Row) (i : ℕ) → slice_get rows i ≡ None → length rows ≤ i
+nth_none [] i h = omega arith
+nth_none (x ∷ rows) zero h = absurd (not_none x (sym h))
+nth_none (x ∷ rows) (suc i) h = omega (arith, nth_none rows i h)
+
+pub twin_next : (rows : List Row) (r q : Row) (n : ℕ) → 2 ≤ n → Some q ≡ row_of rows n → has_twin (take (n - 2) rows) r ≡ false → false ≡ twins q r → has_twin (take (n + 1 - 2) rows) r ≡ false
+twin_next rows r q n two e h t =
+    let i = n - 2 in
+    let at_i : slice_get rows i ≡ Some q = sym (e ∙ row_there rows n two) in
+    let l = nth_some rows i q at_i in
+    let g : get_or rows i q ≡ q = (let k = slice_get-get_or rows i q l in cc) in
+    let m : n + 1 - 2 ≡ i + 1 = omega arith in
+    let w = twin_append (take i rows) (get_or rows i q ∷ []) r in
+    let v : has_twin (get_or rows i q ∷ []) r ≡ false = ap (λ z. twins z r || false) g ∙ ap (λ b. b || false) (sym t) in
+    ap (λ k. has_twin (take k rows) r) m ∙ (ap (λ z. has_twin z r) (take_more rows i q l) ∙ (w ∙ ap₂ ◌||◌ h v))
+
+true_or : (a b : Bool) → a ≡ true → true ≡ (a || b)
+true_or true b h = refl
+true_or false b h = grind (arith, nat_tests)
+
+or_right : (a b : Bool) → true ≡ b → true ≡ (a || b)
+or_right true b h = refl
+or_right false b h = h
+
+twin_at : (r q : Row) → true ≡ twins q r → (rows : List Row) (i : ℕ) → slice_get rows i ≡ Some q → true ≡ has_twin rows r
+twin_at r q t [] i h = absurd (not_none q h)
+twin_at r q t (x ∷ rows) zero h = let s : x ≡ q = cc in true_or (twins x r) (has_twin rows r) (ap (λ z. twins z r) s ∙ sym t)
+twin_at r q t (x ∷ rows) (suc i) h = or_right (twins x r) (has_twin rows r) (twin_at r q t rows i h)
+
+pub twin_found : (rows : List Row) (r q : Row) (n : ℕ) → 2 ≤ n → Some q ≡ row_of rows n → true ≡ twins q r → true ≡ has_twin rows r
+twin_found rows r q n two e t = twin_at r q t rows (n - 2) (sym (e ∙ row_there rows n two))
+
+pub twin_none : (rows : List Row) (r : Row) (n : ℕ) → 2 ≤ n → None ≡ row_of rows n → has_twin (take (n - 2) rows) r ≡ false → false ≡ has_twin rows r
+twin_none rows r n two e h =
+    sym (ap (λ z. has_twin z r) (sym (take_all (n - 2) rows (nth_none rows (n - 2) (sym (e ∙ row_there rows n two))))) ∙ h)
+
+pub twin_all : (rows : List Row) (r : Row) (n : ℕ) → length rows ≤ n - 2 → has_twin (take (n - 2) rows) r ≡ false → false ≡ has_twin rows r
+twin_all rows r n l h = sym (ap (λ z. has_twin z r) (sym (take_all (n - 2) rows l)) ∙ h)
+
+-- Rows.
+module _ (n : ℕ) (bs : List ℕ) (first : List Row) (start : ℕ) where
+  abbrev pub Rowing : ℕ → List Row → ℕ → Type 0
+  Rowing i rows place = rows_at n bs first start ≡ rows_at (n - i) bs rows place
+
+  pub rowing_more : (i : ℕ) (rows after : List Row) (place next : ℕ) (r : Row) → Rowing i rows place → i < n → row_at bs rows place ≡ accepted r next → after ≡ rows ++ r ∷ [] → Rowing (i + 1) after next
+  unfolding rows_at
+  rowing_more i rows after place next r h lt e f =
+      let m : n - i ≡ suc (n - (i + 1)) = omega arith in
+      h ∙ (ap (λ k. rows_at k bs rows place) m ∙ (rw e (ap (λ z. rows_at (n - (i + 1)) bs z next) (sym f))))
+
+  pub rowing_fails : (i : ℕ) (rows : List Row) (place : ℕ) (e : Stop) → Rowing i rows place → i < n → Declines (row_at bs rows place) e → Declines (rows_at n bs first start) e
+  unfolding rows_at
+  rowing_fails i rows place e h lt d =
+      let m : n - i ≡ suc (n - (i + 1)) = omega arith in
+      subst (λ o. Declines o e) (sym (h ∙ ap (λ k. rows_at k bs rows place) m)) (declines_after (row_at bs rows place) _ e d)
+
+  pub rowing_done : (i : ℕ) (rows : List Row) (place : ℕ) → Rowing i rows place → n ≤ i → rows_at n bs first start ≡ accepted rows place
+  unfolding rows_at
+  rowing_done i rows place h le =
+      let m : n - i ≡ 0 = omega arith in
+      h ∙ ap (λ k. rows_at k bs rows place) m
+
+-- Functions: what the tables say of those read so far.
+counts_push : (gs : List Function) (g : Function) → result_counts (signatures (gs ++ g ∷ [])) ≡ result_counts (signatures gs) ++ length g.results ∷ []
+counts_push [] g = refl
+counts_push (h ∷ gs) g = ap (λ z. length h.results ∷ z) (counts_push gs g)
+
+nodes_push : (counts : List ℕ) (gs : List Function) (g : Function) → nodes_of counts (gs ++ g ∷ []) ≡ nodes_of counts gs ++ flat (counts ++ result_counts (signatures gs)) g.body
+unfolding nodes_of
+nodes_push counts [] g = append-nil (flat counts g.body) ∙ ap (λ z. flat z g.body) (sym (append-nil counts))
+nodes_push counts (h ∷ gs) g =
+    ap (λ z. flat counts h.body ++ z) (nodes_push (counts ++ length h.results ∷ []) gs g)
+    ∙ (sym (append_assoc (flat counts h.body) (nodes_of (counts ++ length h.results ∷ []) gs) _)
+    ∙ ap (λ z. (flat counts h.body ++ nodes_of (counts ++ length h.results ∷ []) gs) ++ flat z g.body) (append_assoc counts (length h.results ∷ []) (result_counts (signatures gs))))
+
+entries_push : (counts : List ℕ) (place : ℕ) (gs : List Function) (g : Function) → entries counts place (gs ++ g ∷ []) ≡ entries counts place gs ++ entry g.parameters g.results (place + length (nodes_of counts gs)) ∷ []
+unfolding entries nodes_of
+entries_push counts place [] g = ap (λ z. entry g.parameters g.results z ∷ []) (omega arith)
+entries_push counts place (h ∷ gs) g =
+    let e : (place + length (flat counts h.body)) + length (nodes_of (counts ++ length h.results ∷ []) gs) ≡ place + length (flat counts h.body ++ nodes_of (counts ++ length h.results ∷ []) gs) = omega (arith, length-append (flat counts h.body) (nodes_of (counts ++ length h.results ∷ []) gs)) in
+    ap (λ z. entry h.parameters h.results place ∷ z)
+    (entries_push (counts ++ length h.results ∷ []) (place + length (flat counts h.body)) gs g
+    ∙ ap (λ k. entries (counts ++ length h.results ∷ []) (place + length (flat counts h.body)) gs ++ entry g.parameters g.results k ∷ []) e)
+
+module _ (n : ℕ) (rows : List Row) (bs : List ℕ) (start : ℕ) where
+  abbrev pub Defining : ℕ → List code.Function → List Node → ℕ → Type 0
+  Defining i fs nodes place =
+      (gs : List Function) × (functions_at n rows bs [] start ≡ functions_at (n - i) rows bs gs place)
+      × (seen_all fs ≡ signatures gs) × (map said fs ≡ entries [] 0 gs) × (nodes ≡ nodes_of [] gs)
+
+  pub defining_none : (fs : List code.Function) (nodes : List Node) → fs ≡ [] → nodes ≡ [] → Defining 0 fs nodes start
+  unfolding entries nodes_of
+  defining_none fs nodes e d =
+      let m : n - 0 ≡ n = omega arith in
+      ([], ap (λ k. functions_at k rows bs [] start) (sym m), ap seen_all e, ap (map said) e, d)
+
+  pub defining_more : (i : ℕ) (fs more : List code.Function) (nodes next : List Node) (place q : ℕ) (f : code.Function) (g : Function) → (D : Defining i fs nodes place) → i < n → function_at (context rows (seen_all fs)) bs place ≡ accepted g q → said f ≡ entry g.parameters g.results (length nodes) → next ≡ nodes ++ flat (result_counts (seen_all fs)) g.body → more ≡ fs ++ f ∷ [] → Defining (i + 1) more next q
+  unfolding functions_at
+  defining_more i fs more nodes next place q f g D lt x s nn m =
+      let gs = D.0 in
+      let k : n - i ≡ suc (n - (i + 1)) = omega arith in
+      let y : function_at (context rows (signatures gs)) bs place ≡ accepted g q = ap (λ z. function_at (context rows z) bs place) (sym D.2) ∙ x in (
+        gs ++ g ∷ [],
+        D.1 ∙ (ap (λ j. functions_at j rows bs gs place) k ∙ ap (λ o. after o (λ a b. functions_at (n - (i + 1)) rows bs (gs ++ a ∷ []) b)) y),
+        ap seen_all m ∙ (map-append seen fs (f ∷ []) ∙ (ap₂ (λ a b. a ++ b ∷ []) D.2 (ap (λ (e : Entry). record { parameters = e.parameters; results = e.results }) s) ∙ sym (signatures_push gs g))),
+        ap (map said) m ∙ (map-append said fs (f ∷ []) ∙ (ap₂ (λ a b. a ++ b ∷ []) D.3 (s ∙ ap (λ z. entry g.parameters g.results z) (ap length D.4 ∙ zero_plus (length (nodes_of [] gs)))) ∙ sym (entries_push [] 0 gs g))),
+        nn ∙ (ap₂ (λ a b. a ++ flat (result_counts b) g.body) D.4 D.2 ∙ sym (nodes_push [] gs g)),
+      )
+    where
+      zero_plus : (k : ℕ) → k ≡ 0 + k
+      zero_plus k = omega arith
+
+  pub defining_fails : (i : ℕ) (fs : List code.Function) (nodes : List Node) (place : ℕ) (e : Stop) → Defining i fs nodes place → i < n → Declines (function_at (context rows (seen_all fs)) bs place) e → Declines (functions_at n rows bs [] start) e
+  unfolding functions_at
+  defining_fails i fs nodes place e D lt d =
+      let k : n - i ≡ suc (n - (i + 1)) = omega arith in
+      subst (λ o. Declines o e) (sym (D.1 ∙ ap (λ j. functions_at j rows bs D.0 place) k))
+      (declines_after (function_at (context rows (signatures D.0)) bs place) _ e (subst (λ z. Declines (function_at (context rows z) bs place) e) D.2 d))
+
+  pub defining_done : (i : ℕ) (fs : List code.Function) (nodes : List Node) (place : ℕ) (D : Defining i fs nodes place) → n ≤ i → functions_at n rows bs [] start ≡ accepted D.0 place
+  unfolding functions_at
+  defining_done i fs nodes place D le =
+      let k : n - i ≡ 0 = omega arith in
+      D.1 ∙ ap (λ j. functions_at j rows bs D.0 place) k
+
+-- A function whose parts were read.
+pub function_reads : (C : Context) (bs : List ℕ) (p b k w : ℕ) (ps rs ts : List ℕ) (e : Expr) (r s q : ℕ) → first_at bs p ≡ accepted b k → b ≡ 0x20 → whole 2 bs p ≡ accepted tt w → few (body bs p 1) ≡ true → few (body bs p 2) ≡ true → uses_at (body bs p 1) (length C.rows + 2) bs w ≡ accepted ps r → uses_at (body bs p 2) (length C.rows + 2) bs r ≡ accepted rs s → expr C 100 bs ps s ≡ accepted (typed e ts) q → same rs ts ≡ true → function_at C bs p ≡ accepted (record { parameters = ps; results = rs; body = e }) q
+function_reads C bs p b k w ps rs ts e r s q f z h c1 c2 u v x g =
+    let z' = eq-eqb b 0x20 z in
+    rw (f, z', h, c1, c2, u, v, x, g)
+
+-- A module whose parts were read.
+pub module_reads : (bs : List ℕ) (b k w : ℕ) (rs : List Row) (fs : List Function) (r s : ℕ) → first_at bs 0 ≡ accepted b k → b ≡ 0x01 → whole 2 bs 0 ≡ accepted tt w → body bs 0 1 ≤ 60 → 1 ≤ body bs 0 2 → body bs 0 2 ≤ 60 → rows_at (body bs 0 1) bs [] w ≡ accepted rs r → functions_at (body bs 0 2) rs bs [] r ≡ accepted fs s → s ≡ length bs → module_at bs ≡ accepted (record { rows = rs; functions = fs }) s
+module_reads bs b k w rs fs r s f z h c1 c2 c3 u v e =
+    let z' = eq-eqb b 0x01 z in
+    let l1 = le-leb (body bs 0 1) 60 c1 in
+    let l2 = le-leb 1 (body bs 0 2) c2 in
+    let l3 = le-leb (body bs 0 2) 60 c3 in
+    let g = eq-eqb s (length bs) e in
+    rw (f, z', h, l1, l2, l3, u, v, g)

@@ -1,0 +1,51 @@
+ghost use Rattle.std.specs.Prelude.{◌≡◌};
+ghost use Rattle.module_check.specs.Checking.{Checked, Means, refusal_of};
+
+use crate::reader::Reader;
+use crate::stop::Stop;
+use crate::tables::Tables;
+use language::Program;
+use values::{Refusal, Types};
+
+// The refusal that stopping means.
+fn refusal_of(stop: Stop) -> Refusal
+    ensures { result ≡ refusal_of stop }
+{
+    match stop {
+        Stop::Declined(refusal) => refusal,
+        Stop::Memory => Refusal::Memory,
+    }
+}
+
+// Reads bytes as a module. Where it passes, the holder has the module's tables; where it is refused, the holder stays
+// as it was.
+pub fn check(program: &mut Program, bytes: &[u8]) -> Result<(), Refusal>
+    ensures checked { Checked bytes.now program.old program.new result }
+    ensures means { Means bytes.now program.new result }
+{
+    if bytes.len() > 16384 {
+        return Err(Refusal::Oversize);
+    }
+    let heap = program.heap;
+    let mut tables = Tables {
+        types: Types::new(heap),
+        functions: Vec::new(heap),
+    };
+    let mut reader = Reader {
+        at: 0,
+        nodes: Vec::new(heap),
+    };
+    match reader.module(bytes, &mut tables) {
+        Ok(()) => {}
+        Err(stop) => return Err(refusal_of(stop)),
+    }
+    let Tables { types, functions } = tables;
+    let Reader { at: _, nodes } = reader;
+    *program = Program {
+        heap,
+        types,
+        functions,
+        nodes,
+    };
+    Ok(())
+}
