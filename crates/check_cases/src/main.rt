@@ -1,7 +1,9 @@
 // Checks the module that each line of the input has in hexadecimal, and prints what the check says.
 // `stdin` and `stdout` are written by tools/check_cases.py, which knows the rules and not this code.
-use module_check::check;
+#![tactic(auto)]
+
 use language::Program;
+use module_check::check;
 use value_text::parse_bytes;
 
 fn one_line(rt: &HostRuntime, line: &str) -> anyhow::Result<()> {

@@ -1,4 +1,6 @@
 // Max, min, and, or: operators whose tally is one of the parts or a single truth value.
+#![tactic(auto)]
+
 mod extremes;
 mod truths;
 

@@ -1,9 +1,7 @@
 -- The bytes of a module. A record is a kind byte, a body, and its parts, which are records.
 use Rattle.std.specs.Prelude.{ℕ, ◌+◌, List, [], ◌∷◌, ◌++◌, length}
 use Rattle.numbers.specs.Faults.{code_of}
-use Rattle.merging.specs.declared.bundle.IntegerMerge.{IntegerMerge}
 use Rattle.merging.specs.declared.bundle.IntegerMerge.TheVariants as integers
-use Rattle.merging.specs.declared.bundle.BooleanMerge.{BooleanMerge}
 use Rattle.merging.specs.declared.bundle.BooleanMerge.TheVariants as booleans
 use Rattle.values.specs.declared.row.Row.{Row}
 use Rattle.values.specs.declared.row.Row.TheVariants as rows

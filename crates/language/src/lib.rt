@@ -1,4 +1,6 @@
 // The language of modules: its records as trees and as bytes, its typing, and the holder of a checked module.
+#![tactic(auto)]
+
 mod function;
 mod merge;
 mod node;

@@ -2,16 +2,15 @@
 use Rattle.std.proofs.Common.{◌≡◌, ℕ, zero, suc, ◌+◌, ◌-◌, ◌<◌, true, false, List, [], ◌∷◌, ◌++◌, length, get_or, Some, sym, refl, ap, ◌∙◌, subst, append_assoc, arith}
 use Rattle.std.specs.List.{slice_get}
 use Rattle.std.proofs.lemmas.List.{length_push, get_or_append_left, get_or_push}
-use Rattle.numbers.specs.declared.number.Number.{Number}
 use Rattle.numbers.specs.declared.boolean.Boolean.{Boolean}
 use Rattle.numbers.specs.declared.boolean.Boolean.TheVariants as booleans
 use Rattle.values.specs.declared.row.Row.{Row}
-use Rattle.values.specs.Values.{Value, size, sizes}
+use Rattle.values.specs.Values.{Value, sizes}
 use Rattle.language.specs.Syntax.{Expr, Exprs, LoopEnd, LoopEnds, Function, arity, arity_first}
 use Rattle.language.specs.Typing.{Signature, signature, Context, context, Types, MembersTypes, ArmsTypes, EndTypes, EndsTypes, FunctionsFit}
 use Rattle.meaning.specs.Operations.{as_integer}
-use Rattle.meaning.specs.Outcomes.{Outcome, finished, step, after}
-use Rattle.meaning.specs.Evaluation.{Merging, Meaning, Turn, ended, no_function, first, branch, by_tag, lay_undefs, loop, range_parts, eval, eval_members, eval_arm, eval_end, eval_arm_end, meanings_from, meanings}
+use Rattle.meaning.specs.Outcomes.{Outcome, step, after}
+use Rattle.meaning.specs.Evaluation.{Merging, Meaning, no_function, first, branch, by_tag, lay_undefs, loop, range_parts, eval, eval_members, eval_arm, eval_end, eval_arm_end, meanings_from, meanings}
 use Rattle.meaning.specs.Laws.{counts_of, CallsRunBodies}
 use Rattle.meaning.proofs.Numbered.{none_some, same_some, nth_there}
 

@@ -11,10 +11,9 @@ use Rattle.values.specs.Values.{Value, sizes, integer_value, boolean_value}
 use Rattle.values.proofs.Prefixes.{few_values}
 use Rattle.language.specs.declared.merge.Merge.{Merge}
 use Rattle.language.specs.declared.merge.Merge.TheVariants.{Collect, Integers, Booleans}
-use Rattle.language.specs.Syntax.{Function}
 use Rattle.meaning.specs.Operations.{as_integer, as_boolean}
 use Rattle.meaning.specs.Outcomes.{Outcome, finished, spent, full, after, lay, Keeps}
-use Rattle.meaning.specs.Evaluation.{Merging, meanings, run}
+use Rattle.meaning.specs.Evaluation.{meanings, run}
 use Rattle.meaning.specs.Runs.{merge_by, merged, Definitions, Grouping, Groupings, closed_under, merged_under}
 use Rattle.meaning.specs.Laws.{longest, FewAreMerged, GroupingIsFree, Later, BudgetOnlyStops, Counts, StepsAreCounted, Below, ExpressionsStep, LoopsAreUnbounded, Roomier, RoomOnlyStops, ResultsFit}
 use Rattle.meaning.proofs.Bounds.{Within, weak, within, end_within, after_within, within_more, lay_within, calls_bounded}

@@ -1,5 +1,7 @@
 // What a run of a module means (specs/), and the laws of runs. There is no code here but functions that do nothing and
 // carry a law each in their contracts.
+#![tactic(auto)]
+
 mod laws;
 
 pub use laws::{

@@ -1,5 +1,7 @@
 // Merges the parts that each line of the input names, with every operator and in three orders.
 // `stdin` and `stdout` are written by tools/merge_tables.py, which knows the rules and not this code.
+#![tactic(auto)]
+
 use merging::{MOST, Operator, Operators, merge, merge_backwards, merge_halves};
 use numbers::{BasicFault, Boolean, Integer};
 use operators::Standard;

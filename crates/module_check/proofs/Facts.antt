@@ -1,5 +1,5 @@
 -- Facts on lists of types that the reading functions share.
-use Rattle.std.proofs.Common.{◌≡◌, ℕ, zero, suc, ◌+◌, ◌-◌, ◌<◌, ◌≤◌, Bool, true, false, cond, ◌&&◌, eqb, List, [], ◌∷◌, ◌++◌, length, get_or, take, drop, set, replicate, Some, None, sym, refl, ap, ◌∙◌, subst, ap₂, arith, length-append, length-take}
+use Rattle.std.proofs.Common.{◌≡◌, ℕ, ◌+◌, ◌-◌, ◌<◌, ◌≤◌, Bool, true, false, cond, ◌&&◌, eqb, List, [], ◌∷◌, ◌++◌, length, get_or, take, drop, set, replicate, Some, None, sym, refl, ap, ◌∙◌, subst, ap₂, arith, length-append, length-take}
 use lib.ListN.{length-replicate}
 use Rattle.std.specs.List.{slice_get}
 use Rattle.std.proofs.lemmas.List.{get_or-take, take_more, take_all, drop-drop, drop-replicate, drop-set-lt, take-append-drop, append_assoc, length-map, get_or-map}
@@ -7,7 +7,7 @@ use Rattle.std.proofs.lemmas.Option.{slice_get-get_or, slice_get_past, slice_get
 use Rattle.std.proofs.lemmas.Bool.Decides.{nat_tests}
 use Rattle.language.specs.Sorts.{same}
 use Rattle.verdict.specs.Judging.{every}
-use Rattle.verdict.specs.Outcomes.{Out, accepted, refused, after, each}
+use Rattle.verdict.specs.Outcomes.{Out, accepted, after, each}
 use Rattle.values.specs.declared.members.Members.{Members}
 use Rattle.values.specs.Rows.{used}
 use Rattle.verdict.specs.Bodies.{members_of}

@@ -1,5 +1,5 @@
 -- Loops over members, arms and ends: what has been read so far.
-use Rattle.std.proofs.Common.{◌≡◌, ℕ, zero, suc, ◌+◌, ◌-◌, ◌<◌, ◌≤◌, Bool, true, false, cond, ◌&&◌, eqb, List, [], ◌∷◌, ◌++◌, length, get_or, take, set, replicate, Ok, Err, sym, refl, ap, ◌∙◌, subst, ap₂, arith, length-append}
+use Rattle.std.proofs.Common.{◌≡◌, ℕ, zero, suc, ◌+◌, ◌<◌, ◌≤◌, Bool, true, false, cond, ◌&&◌, eqb, List, [], ◌∷◌, ◌++◌, length, get_or, take, set, replicate, Ok, sym, refl, ap, ◌∙◌, ap₂, arith}
 use lib.ListN.{length-replicate}
 use Rattle.std.proofs.lemmas.List.{append_assoc, append-nil, length_push, take_more_set}
 use Rattle.std.proofs.lemmas.Bool.Decides.{nat_tests}
@@ -14,11 +14,10 @@ use Rattle.language.specs.Syntax.{Expr, LoopEnd, list, count, arity, arity_first
 use Rattle.language.specs.Sorts.{same, present}
 use Rattle.language.specs.Tables.{node, flat, flat_all, flat_end, flat_ends}
 use Rattle.verdict.specs.declared.kinds.Head.TheVariants as head
-use Rattle.verdict.specs.Outcomes.{Out, accepted, refused, after, judged, each}
+use Rattle.verdict.specs.Outcomes.{accepted, refused, after, judged}
 use Rattle.verdict.specs.Judging.{Typed, typed, single, singles, firsts, agree, first_types, trees, ends}
 use Rattle.verdict.specs.Expressions.{Reads, Ends, members_at, list_at, arms_at, ends_at}
 use Rattle.verdict.proofs.Each.{Going, going_none, going_more, going_all}
-use Rattle.verdict.proofs.Sames.{same_refl}
 use Rattle.verdict.proofs.Sound.{count_trees}
 use Rattle.module_check.specs.declared.stop.Stop.{Stop}
 use Rattle.module_check.specs.Reading.{Declines, PartsRead, ArmsRead, EndsRead}

@@ -1,14 +1,12 @@
 -- What the answer of the check means.
-use Rattle.std.proofs.Common.{◌≡◌, ℕ, ◌<◌, ◌≤◌, Bool, true, false, cond, leb, ◌⊎◌, List, length, get_or, Ok, Err, vec_items, Result, sym, refl, ap, ◌∙◌, inl, inr, arith}
+use Rattle.std.proofs.Common.{◌≡◌, ℕ, ◌<◌, ◌≤◌, cond, ◌⊎◌, List, length, Ok, Err, Result, sym, refl, ap, ◌∙◌, inl, inr}
 use Rattle.std.proofs.lemmas.Bool.{le-leb, lt-leb}
 use Rattle.values.specs.declared.refusal.Refusal.{Refusal}
 use Rattle.values.specs.declared.refusal.Refusal.TheVariants.{Memory, Oversize}
-use Rattle.values.specs.Tables.{rows_of}
 use Rattle.language.specs.declared.program.Program.{Program}
 use Rattle.language.specs.Syntax.{Module}
 use Rattle.language.specs.Typing.{WellTyped}
-use Rattle.language.specs.Tables.{Held, TablesOf}
-use Rattle.verdict.specs.Outcomes.{Out, accepted, refused}
+use Rattle.verdict.specs.Outcomes.{accepted, refused}
 use Rattle.verdict.specs.Modules.{module_at, verdict}
 use Rattle.verdict.specs.Exactness.{Bytes, Encodes}
 use Rattle.verdict.proofs.Spans.{not_accepted}

@@ -1,20 +1,19 @@
 -- Reading rows and functions one behind the other.
-use Rattle.std.proofs.Common.{◌≡◌, ℕ, zero, suc, ◌+◌, ◌-◌, ◌<◌, ◌≤◌, Bool, true, false, cond, ◌&&◌, ◌||◌, ltb, List, [], ◌∷◌, ◌++◌, map, length, get_or, take, drop, Some, None, Option, sym, refl, ap, ◌∙◌, subst, ap₂, arith, length-append}
+use Rattle.std.proofs.Common.{◌≡◌, ℕ, zero, suc, ◌+◌, ◌-◌, ◌<◌, ◌≤◌, Bool, true, false, cond, ◌||◌, List, [], ◌∷◌, ◌++◌, map, length, get_or, take, Some, None, sym, refl, ap, ◌∙◌, subst, ap₂, arith, length-append}
 use Rattle.std.specs.List.{slice_get}
-use Rattle.std.proofs.lemmas.List.{append_assoc, append-nil, take_more, take_all, map-append, length-map}
-use Rattle.std.proofs.lemmas.Option.{slice_get-get_or, slice_get_past}
+use Rattle.std.proofs.lemmas.List.{append_assoc, append-nil, take_more, take_all, map-append}
+use Rattle.std.proofs.lemmas.Option.{slice_get-get_or}
 use Rattle.std.proofs.lemmas.Bool.{le-ltb, le-leb, eq-eqb}
 use Rattle.std.proofs.lemmas.Bool.Decides.{nat_tests}
 use Rattle.values.specs.declared.row.Row.{Row}
-use Rattle.values.specs.Rows.{used}
 use Rattle.values.specs.Tables.{row_of}
 use Rattle.language.specs.declared.function.Function as code
 use Rattle.language.specs.declared.node.Node.{Node}
 use Rattle.language.specs.Syntax.{Expr, Function}
 use Rattle.language.specs.Sorts.{same, twins, has_twin}
-use Rattle.language.specs.Typing.{Context, Signature, signature, signatures, context, result_counts}
+use Rattle.language.specs.Typing.{Context, signatures, context, result_counts}
 use Rattle.language.specs.Tables.{flat, Entry, entry, said, entries, nodes_of}
-use Rattle.verdict.specs.Outcomes.{Out, accepted, refused, after, first_at, whole, body}
+use Rattle.verdict.specs.Outcomes.{accepted, after, first_at, whole, body}
 use Rattle.verdict.specs.Bodies.{few, uses_at}
 use Rattle.verdict.specs.Judging.{typed}
 use Rattle.verdict.specs.Expressions.{expr}

@@ -1,10 +1,9 @@
 -- The steps of reading: what a function has read where its parts were read.
-use Rattle.std.proofs.Common.{◌≡◌, ℕ, zero, suc, ◌+◌, ◌-◌, ◌<◌, ◌≤◌, Bool, true, false, cond, ◌&&◌, eqb, leb, List, [], ◌∷◌, ◌++◌, length, get_or, take, set, replicate, Some, None, Ok, Err, Option, sym, refl, ap, ◌∙◌, subst, ap₂, sub-one, arith, length-append}
+use Rattle.std.proofs.Common.{◌≡◌, ℕ, zero, suc, ◌+◌, ◌-◌, ◌<◌, Bool, true, false, cond, eqb, leb, List, [], ◌∷◌, ◌++◌, length, get_or, set, Some, Ok, sym, refl, ap, ◌∙◌, subst, ap₂, sub-one, arith, length-append}
 use Rattle.std.specs.List.{slice_get}
 use Rattle.std.proofs.lemmas.List.{append_assoc, append-nil, set_at}
 use Rattle.std.proofs.lemmas.Bool.{le-leb, true≢false}
 use Rattle.values.specs.declared.members.Members.{Members}
-use Rattle.values.specs.declared.refusal.Refusal.{Refusal}
 use Rattle.values.specs.declared.refusal.Refusal.TheVariants.{Strange, Deep, Clash, Undeclared}
 use Rattle.values.specs.Rows.{used}
 use Rattle.language.specs.declared.merge.Merge.{Merge}
@@ -19,7 +18,7 @@ use Rattle.language.specs.declared.node.Kind.TheVariants as kind
 use Rattle.language.specs.declared.node.Block.TheVariants as block
 use Rattle.language.specs.declared.node.End.TheVariants as close
 use Rattle.language.specs.declared.node.Node.{Node}
-use Rattle.language.specs.Syntax.{Expr, Exprs, LoopEnd, LoopEnds, list, if, let_in, tagcase, for, forall, none, ◌then◌, iter, done, if_end, let_end, tagcase_end, no_ends, ◌or◌, count, count_ends, arity, arity_first}
+use Rattle.language.specs.Syntax.{Expr, LoopEnd, if, let_in, tagcase, for, forall, iter, done, if_end, let_end, tagcase_end, count, count_ends, arity, arity_first}
 use Rattle.language.specs.Sorts.{same, merged_type, fields_of, element_of}
 use Rattle.language.specs.Typing.{Context, Signature, result_counts}
 use Rattle.language.specs.Tables.{node, flat, flat_all, flat_end, flat_ends}
@@ -27,17 +26,15 @@ use Rattle.verdict.specs.declared.kinds.Sort.{Sort}
 use Rattle.verdict.specs.declared.kinds.Sort.TheVariants as sort
 use Rattle.verdict.specs.declared.kinds.Head.{Head}
 use Rattle.verdict.specs.declared.kinds.Head.TheVariants as head
-use Rattle.verdict.specs.Outcomes.{Out, accepted, refused, after, judged, found, each, first_at, lookup}
+use Rattle.verdict.specs.Outcomes.{Out, accepted, refused, after, found, first_at, lookup}
 use Rattle.verdict.specs.Bodies.{sorts, end_sorts, kind_at, head_at}
-use Rattle.verdict.specs.Judging.{Typed, typed, judge_one, judge_two, bound, arms_of, singles, firsts, agree, first_types, trees, ends, parameters_in, results_in, single, of_one, matches}
-use Rattle.verdict.specs.Expressions.{leaf_tree, one_tree, two_tree, Reads, Ends, one_at, two_at, members_at, list_at, if_at, let_at, arms_at, tagcase_at, for_at, forall_at, parts_at, iter_at, if_end_at, let_end_at, ends_at, tagcase_end_at, end_parts_at, done_at, goes_on, record_at, end_record_at, expr, end}
+use Rattle.verdict.specs.Judging.{Typed, typed, judge_one, judge_two, bound, arms_of, agree, first_types, trees, ends, parameters_in, results_in, single, of_one, matches}
+use Rattle.verdict.specs.Expressions.{leaf_tree, one_tree, two_tree, Reads, Ends, one_at, two_at, if_at, let_at, arms_at, tagcase_at, for_at, forall_at, parts_at, iter_at, if_end_at, let_end_at, ends_at, tagcase_end_at, end_parts_at, done_at, goes_on, record_at, end_record_at, expr, end}
 use Rattle.verdict.proofs.Spans.{after_inv, accepted_inv, judged_inv, found_inv, not_none}
-use Rattle.verdict.proofs.Sames.{matches_inv, parameters_inv, same_refl}
+use Rattle.verdict.proofs.Sames.{matches_inv, parameters_inv}
 use Rattle.verdict.proofs.Sound.{arms_inv, count_trees, count_these}
 use Rattle.module_check.specs.declared.stop.Stop.{Stop}
-use Rattle.module_check.specs.declared.stop.Stop.TheVariants.{Declined, Memory}
-use Rattle.module_check.specs.Views.{kind_of, end_kind_of}
-use Rattle.module_check.specs.Reading.{Declines, ExprRead, PartsRead, ArmsRead, EndRead, EndPartsRead, EndsRead}
+use Rattle.module_check.specs.Reading.{Declines, PartsRead, EndRead, EndPartsRead}
 use Rattle.module_check.proofs.Facts.{declines_after}
 
 -- Nodes that grow.

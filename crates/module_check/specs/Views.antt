@@ -1,5 +1,5 @@
 -- What the code's structures stand for.
-use Rattle.std.specs.Prelude.{ℕ, List, [], ◌∷◌, map, length, take, vec_items}
+use Rattle.std.specs.Prelude.{ℕ, List, map, length, take, vec_items}
 use Rattle.values.specs.Rows.{used}
 use Rattle.values.specs.Tables.{rows_of}
 use Rattle.language.specs.declared.function.Function as code

@@ -1,4 +1,6 @@
 // Reads bytes as a module and fills a holder with it, or says why not.
+#![tactic(auto)]
+
 mod filling;
 mod lists;
 mod reader;

@@ -1,5 +1,7 @@
 // Prints every operation at both ends of the range, around zero and at every error value.
 // `stdout` is written by tools/operation_tables.py, which knows the rules and not this code.
+#![tactic(auto)]
+
 use arithmetic::{abs, divide, minus, modulo, negate, plus, times};
 use numbers::{BasicFault, Boolean, Fault, Integer};
 use ordering::{at_least, at_most, equal, greater, less, max, min, unequal};

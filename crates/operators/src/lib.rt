@@ -1,4 +1,6 @@
 // The six standard operators, and figures of what they and the arithmetic give.
+#![tactic(auto)]
+
 ghost use Rattle.operators.specs.Standard.{standard};
 ghost use Rattle.operators.specs.Figures.{Figures, NotRepeatedSum};
 ghost use Rattle.std.proofs.Common.{rules};

@@ -1,5 +1,7 @@
 // Plus a second time, as an author outside would write it: the parts below 0 and those above are summed apart, so that the
 // signs need no notes.
+#![tactic(auto)]
+
 ghost use Rattle.std.specs.Prelude.{◌≡◌};
 ghost use Rattle.merging.specs.Merged.{merged};
 ghost use Rattle.sums.specs.Plus.{amount, plus};

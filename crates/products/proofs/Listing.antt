@@ -1,7 +1,6 @@
 -- What times means for a list, by the product of its factors.
 use Rattle.std.proofs.Common.{◌≡◌, ℕ, zero, suc, ◌*◌, ◌<◌, Bool, true, false, cond, not, ◌||◌, List, [], ◌∷◌, ℤ, pos, negsuc, ◌*ℤ◌, fold, sym, refl, ap, ◌∙◌, subst, ap₂, zero-lt-suc, mul-pos, mul-zero, zero-mul, arith}
 use lib.Signed.{lt_z}
-use Rattle.numbers.specs.declared.number.Number.{Number}
 use Rattle.numbers.specs.declared.fault.Fault.TheVariants.{Undef, MissElt, PosOver, NegOver, Unknown, ZeroDivide}
 use Rattle.numbers.specs.declared.integer.Integer.{Integer}
 use Rattle.numbers.specs.declared.integer.Integer.TheVariants.{Proper, Error}

@@ -1,7 +1,6 @@
 -- Multiplication by sign and magnitude. An over counts as 2147483648 with its sign, since what it gives times a number
 -- other than 0 is over again.
 use Rattle.std.specs.Prelude.{ℕ, zero, suc, ◌*◌, Bool, true, false, not, ℤ, pos, negsuc, neg_ℤ}
-use Rattle.numbers.specs.declared.number.Number.{Number}
 use Rattle.numbers.specs.declared.fault.Fault.TheVariants.{Undef, MissElt, PosOver, NegOver, Unknown, ZeroDivide}
 use Rattle.numbers.specs.declared.integer.Integer.{Integer}
 use Rattle.numbers.specs.declared.integer.Integer.TheVariants.{Proper, Error}

@@ -1,4 +1,6 @@
 // Times: the product of many integers, whatever their order.
+#![tactic(auto)]
+
 ghost use Rattle.products.specs.Times.{times};
 ghost use Rattle.products.specs.Products.{TimesMultiplies};
 ghost use Rattle.products.specs.TimesLaws.{times_laws};

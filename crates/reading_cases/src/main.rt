@@ -1,4 +1,6 @@
 // Tables of readings, good and bad, and what the reader says of each.
+#![tactic(auto)]
+
 use readings::read_table;
 
 const CASES: [&str; 14] = [

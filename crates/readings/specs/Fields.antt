@@ -6,7 +6,7 @@ use Rattle.std.specs.Str.{bytes_eq}
 use Rattle.numbers.specs.declared.fault.Fault.{Fault}
 use Rattle.numbers.specs.declared.fault.Fault.TheVariants.{Undef, MissElt, PosOver, NegOver, Unknown, ZeroDivide}
 use Rattle.numbers.specs.declared.integer.Integer.{Integer}
-use Rattle.numbers.specs.declared.integer.Integer.TheVariants.{Proper, Error}
+use Rattle.numbers.specs.declared.integer.Integer.TheVariants.{Error}
 use Rattle.numbers.specs.Integers.{judged}
 
 -- An empty field is a missed point, and so are `miss` and `miss_elt`.

@@ -1,4 +1,6 @@
 // Tables of probe readings, as comma-separated text.
+#![tactic(auto)]
+
 mod field;
 mod table;
 

@@ -1,6 +1,8 @@
 // The store of a run: bytes that are lent to it, on which values stand one behind the other up to a top. A run writes
 // to its store through these functions alone. Scalars are written by the value reader's own functions; whether
 // something fits is one definition for all of them.
+#![tactic(auto)]
+
 mod bytes;
 mod heads;
 mod scalars;

@@ -1,4 +1,6 @@
 // What a column of readings comes to: merged in three orders, and, for comparison, by repeated +.
+#![tactic(auto)]
+
 ghost use Rattle.std.specs.Prelude.{◌≡◌, Decides};
 ghost use Rattle.summaries.specs.Orders.{Agrees, MergedThreeWays, from_first, from_last};
 

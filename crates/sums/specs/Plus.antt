@@ -1,6 +1,5 @@
 -- The operator plus: an exact sum, with notes of what occurred.
 use Rattle.std.specs.Prelude.{Bool, false, cond, ◌&&◌, ◌||◌, ℤ, pos, ◌+ℤ◌}
-use Rattle.numbers.specs.declared.number.Number.{Number}
 use Rattle.numbers.specs.declared.fault.Fault.TheVariants.{Undef, PosOver, NegOver, Unknown}
 use Rattle.numbers.specs.declared.integer.Integer.{Integer}
 use Rattle.numbers.specs.declared.integer.Integer.TheVariants.{Proper, Error}

@@ -1,4 +1,6 @@
 // Plus: the exact sum of many integers, whatever their order.
+#![tactic(auto)]
+
 ghost use Rattle.std.specs.Prelude.{◌≡◌};
 ghost use Rattle.sums.specs.Plus.{amount, plus, unsettled};
 ghost use Rattle.sums.specs.Sums.{PlusSums};

@@ -1,5 +1,7 @@
 // Reads each line of the input as `ROWS TYPE BYTES`, and prints the value or its refusal.
 // `stdin` and `stdout` are written by tools/value_cases.py, which knows the rules and not this code.
+#![tactic(auto)]
+
 use anyhow::anyhow;
 use value_reader::{read_whole, skip_value};
 use value_text::{parse_bytes, parse_types, show_value};

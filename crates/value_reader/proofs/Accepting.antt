@@ -1,5 +1,5 @@
 -- The reader accepts exactly the encodings of values of the type.
-use Rattle.std.proofs.Common.{◌≡◌, ℕ, ◌+◌, ◌<◌, ◌≤◌, Bool, true, false, leb, List, ◌++◌, length, take, drop, Some, None, Ok, Err, Option, sym, refl, ap, ◌∙◌, subst, arith, length-append}
+use Rattle.std.proofs.Common.{◌≡◌, ℕ, ◌+◌, ◌<◌, ◌≤◌, leb, List, ◌++◌, length, take, drop, Some, None, Ok, Err, Option, sym, refl, ap, ◌∙◌, subst, arith, length-append}
 use Rattle.std.proofs.lemmas.List.{take_at, take-append-drop}
 use Rattle.std.proofs.lemmas.Option.{slice_get-get_or, slice_get_past}
 use Rattle.std.proofs.lemmas.Bool.{leb-true, lt-leb, le-leb}
@@ -7,14 +7,14 @@ use Rattle.values.specs.declared.refusal.Refusal.{Refusal}
 use Rattle.values.specs.declared.refusal.Refusal.TheVariants.{Cut, Undeclared}
 use Rattle.values.specs.declared.row.Row.{Row}
 use Rattle.values.specs.Values.{Value, size, encode}
-use Rattle.values.specs.Trees.{Tree, Of}
+use Rattle.values.specs.Trees.{Tree}
 use Rattle.values.specs.Rows.{table, tree_of, tree_at}
 use Rattle.values.proofs.Grown.{table_long}
 use Rattle.values.proofs.Prefixes.{size_is_length, two_at_least}
 use Rattle.value_reader.specs.Reading.{Verdict, given, and_then, read, read_as, read_number, ended, read_whole}
 use Rattle.value_reader.specs.Exactness.{Stands, Holds, HoldsNumber, Exact}
 use Rattle.value_reader.proofs.Drops.{Span, reaches}
-use Rattle.value_reader.proofs.Inverse.{given_inv, then_inv, given_ok}
+use Rattle.value_reader.proofs.Inverse.{given_inv, then_inv}
 use Rattle.value_reader.proofs.Sound.{sound_read}
 use Rattle.value_reader.proofs.Complete.{complete_read}
 

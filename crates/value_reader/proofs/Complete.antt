@@ -1,20 +1,19 @@
 -- The reader accepts the encoding of every value of the type.
-use Rattle.std.proofs.Common.{◌≡◌, ℕ, zero, suc, ◌+◌, ◌*◌, ◌/◌, ◌%◌, ◌<◌, ◌≤◌, Bool, true, false, cond, ◌&&◌, ◌||◌, eqb, ltb, leb, ◌⊎◌, List, [], ◌∷◌, ◌++◌, length, drop, ℤ, pos, negsuc, ◌+ℤ◌, ◌≤ℤ◌, Some, None, Ok, Err, sym, refl, ap, ◌∙◌, subst, inl, inr, ⊎_elim, append_assoc, arith, length-append, w32, to_z, of_z}
+use Rattle.std.proofs.Common.{◌≡◌, ℕ, zero, suc, ◌+◌, ◌*◌, ◌/◌, ◌%◌, ◌<◌, ◌≤◌, Bool, true, false, ◌&&◌, ◌||◌, eqb, ltb, List, [], ◌∷◌, ◌++◌, length, drop, ℤ, pos, negsuc, ◌≤ℤ◌, Ok, sym, refl, ap, ◌∙◌, subst, ⊎_elim, append_assoc, arith, w32, to_z, of_z}
 use borrow.Author.Differences.{ints}
 use lib.Signed.{lt_z, le_z}
-use Rattle.std.proofs.lemmas.Bool.{and_from, or_right, lt-ltb, eq-eqb}
+use Rattle.std.proofs.lemmas.Bool.{and_from, lt-ltb, eq-eqb}
 use Rattle.numbers.specs.declared.number.Number.{Number}
 use Rattle.numbers.specs.declared.fault.Fault.{Fault}
 use Rattle.numbers.specs.declared.fault.Fault.TheVariants.{Undef, MissElt, PosOver, NegOver, Unknown, ZeroDivide}
 use Rattle.numbers.specs.Faults.{code_of}
-use Rattle.values.specs.declared.refusal.Refusal.{Refusal}
 use Rattle.values.specs.declared.refusal.Refusal.TheVariants.{Strange, Clash}
 use Rattle.values.specs.Values.{Value, boolean, integer, error, array, record_of, union, Values, none, ◌then◌, members, size, row_size, encode, encode_row, word, two_bytes, bit}
 use Rattle.values.specs.Trees.{Tree, Trees, Basic, Indexed, Each, Of, RowOf, OneOf}
 use Rattle.values.proofs.Forms.{Faulty, Any, form_boolean, form_integer, form_array, form_record, form_union}
 use Rattle.values.proofs.Prefixes.{from_four, two_back, word_back, size_is_length}
 use Rattle.value_reader.specs.Bytes.{byte, pair_at, word_at, two_fit, four_fit}
-use Rattle.value_reader.specs.Reading.{Verdict, given, and_then, admitted, opens, after, boolean_at, integer_at, proper_at, ranged, indexed_at, repeated, array_at, record_at, union_at, count_of, read, reads, chosen}
+use Rattle.value_reader.specs.Reading.{Verdict, and_then, admitted, opens, after, boolean_at, integer_at, proper_at, ranged, indexed_at, repeated, array_at, record_at, union_at, count_of, read, reads, chosen}
 use Rattle.value_reader.proofs.Drops.{onward, byte_in, byte_first, reaches}
 use Rattle.value_reader.proofs.Inverse.{given_ok, own_opens, fault_opens}
 use Rattle.value_reader.proofs.Sound.{Errors}

@@ -1,15 +1,15 @@
 -- Bytes from an offset on.
-use Rattle.std.proofs.Common.{◌≡◌, ℕ, zero, suc, ◌+◌, ◌-◌, ◌*◌, ◌/◌, ◌%◌, ◌<◌, ◌≤◌, Bool, true, false, List, [], ◌∷◌, ◌++◌, length, get_or, take, drop, ℤ, pos, negsuc, ◌≤ℤ◌, sym, refl, ap, ◌∙◌, subst, append_assoc, add-zero, arith, length-append, length-drop, get_or-drop, drop-drop, w32, to_z, of_z}
+use Rattle.std.proofs.Common.{◌≡◌, ℕ, ◌+◌, ◌*◌, ◌/◌, ◌%◌, ◌<◌, ◌≤◌, true, List, [], ◌∷◌, ◌++◌, length, get_or, drop, ℤ, pos, negsuc, ◌≤ℤ◌, sym, refl, ap, ◌∙◌, add-zero, arith, length-drop, get_or-drop, drop-drop, w32, to_z}
 use borrow.Author.Differences.{ints}
 use lib.Signed.{lt_z}
 use lib.Seq.{drop-append_seam}
 use Rattle.std.proofs.lemmas.List.{drop_more}
 use Rattle.std.proofs.lemmas.Int.{of_z-to_z}
-use Rattle.std.proofs.lemmas.Bool.{and_parts, and_from, ltb-true, lt-ltb}
+use Rattle.std.proofs.lemmas.Bool.{and_parts, ltb-true}
 use Rattle.numbers.specs.declared.number.Number.{Number}
 use Rattle.values.specs.Values.{two_bytes, four_bytes, word}
-use Rattle.values.proofs.Prefixes.{from_four, four_back, two_back, number_bits, word_back}
-use Rattle.value_reader.specs.Bytes.{byte, pair_at, word_at, two_fit, four_fit}
+use Rattle.values.proofs.Prefixes.{from_four}
+use Rattle.value_reader.specs.Bytes.{byte, word_at, two_fit, four_fit}
 use Rattle.value_reader.specs.Reading.{proper_at}
 
 -- The bytes xs stand from an offset to an end.

@@ -1,5 +1,5 @@
 -- Integers and booleans that stand in bytes.
-use Rattle.std.proofs.Common.{◌≡◌, ℕ, ◌+◌, ◌-◌, ◌<◌, ◌≤◌, Bool, true, false, cond, eqb, ltb, leb, List, [], ◌∷◌, ◌++◌, length, get_or, take, drop, ℤ, pos, negsuc, Some, None, Option, sym, refl, ap, ◌∙◌, subst, arith, drop-drop, w32, of_z, MatchOption}
+use Rattle.std.proofs.Common.{◌≡◌, ℕ, ◌+◌, ◌-◌, ◌<◌, ◌≤◌, Bool, true, false, eqb, ltb, leb, List, [], ◌∷◌, ◌++◌, length, get_or, take, drop, ℤ, negsuc, Some, None, Option, sym, refl, ap, ◌∙◌, subst, arith, drop-drop, w32, of_z, MatchOption}
 use borrow.Author.Differences.{ints}
 use lib.Signed.{lt_z}
 use mir.Val.{bool_byte}
@@ -10,7 +10,6 @@ use Rattle.numbers.specs.declared.number.Number.{Number}
 use Rattle.numbers.specs.declared.fault.Fault.{Fault}
 use Rattle.numbers.specs.declared.fault.Fault.TheVariants.{Undef, MissElt, PosOver, NegOver, Unknown, ZeroDivide}
 use Rattle.numbers.specs.declared.fault.BasicFault.{BasicFault}
-use Rattle.numbers.specs.declared.fault.BasicFault.TheVariants as basic
 use Rattle.numbers.specs.declared.integer.Integer.{Integer}
 use Rattle.numbers.specs.declared.integer.Integer.TheVariants as integers
 use Rattle.numbers.specs.declared.boolean.Boolean.{Boolean}
@@ -20,8 +19,8 @@ use Rattle.numbers.proofs.Same.{same_number}
 use Rattle.values.specs.Values.{Value, boolean, integer, error, size, encode, word, four_bytes, bit, integer_value, boolean_value}
 use Rattle.value_reader.specs.Bytes.{byte, word_at, four_fit}
 use Rattle.value_reader.specs.Exactness.{Stands}
-use Rattle.value_reader.specs.Scalars.{begins, Finds, narrowed}
-use Rattle.value_reader.proofs.Drops.{Span, onward, byte_in, byte_first, reaches, proper_number}
+use Rattle.value_reader.specs.Scalars.{begins, Finds}
+use Rattle.value_reader.proofs.Drops.{onward, byte_in, byte_first, reaches, proper_number}
 use Rattle.value_reader.proofs.Sound.{two_span, number_span}
 use Rattle.value_reader.proofs.Complete.{word_is, is_proper}
 use Rattle.value_reader.proofs.Accepting.{begins_of, stands_of}

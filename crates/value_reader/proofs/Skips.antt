@@ -1,12 +1,9 @@
 -- Passing over records, and what it answers where values stand.
-use Rattle.std.proofs.Common.{◌≡◌, ℕ, zero, suc, ◌+◌, ◌-◌, ◌<◌, ◌≤◌, Bool, true, false, cond, ◌&&◌, eqb, ltb, leb, List, [], ◌∷◌, ◌++◌, length, drop, Some, None, Option, sym, refl, ap, ◌∙◌, subst, append_assoc, append-nil, arith, length-append, length-drop}
-use Rattle.std.proofs.lemmas.Bool.{and_parts, and_from, ltb-true, leb-true, lt-ltb, le-leb, lt-leb}
-use Rattle.numbers.specs.declared.number.Number.{Number}
-use Rattle.numbers.specs.declared.fault.Fault.{Fault}
-use Rattle.values.specs.Values.{Value, boolean, integer, error, array, record_of, union, Values, members, size, sizes, encode, encodes, word, two_bytes, bit}
-use Rattle.values.specs.Trees.{Tree, Of}
+use Rattle.std.proofs.Common.{◌≡◌, ℕ, zero, suc, ◌+◌, ◌-◌, ◌<◌, ◌≤◌, Bool, true, false, cond, ◌&&◌, eqb, ltb, leb, List, [], ◌∷◌, ◌++◌, length, drop, Some, None, Option, sym, refl, ap, ◌∙◌, append-nil, arith, length-append, length-drop}
+use Rattle.std.proofs.lemmas.Bool.{and_parts, and_from, ltb-true, lt-ltb, le-leb, lt-leb}
+use Rattle.values.specs.Values.{Value, boolean, integer, error, array, record_of, union, members, size, sizes, encode, encodes, word}
 use Rattle.values.proofs.Heads.{head, parts, head_two}
-use Rattle.values.proofs.Prefixes.{Counted, Counteds, counted, counted_append, counted_parts, encodes_opened, sizes_opened, sizes_append, sizes_is_length, two_each}
+use Rattle.values.proofs.Prefixes.{Counted, Counteds, counted, counted_append, counted_parts, encodes_opened, sizes_opened, sizes_is_length, two_each}
 use Rattle.value_reader.specs.declared.skip.Head.{Head}
 use Rattle.value_reader.specs.Bytes.{byte, pair_at}
 use Rattle.value_reader.specs.Skipping.{long_of, inner_at, head_at, stepped, passed, skipped, Skips}

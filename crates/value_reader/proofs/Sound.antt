@@ -1,5 +1,5 @@
 -- What the reader accepts is the encoding of a value of the type.
-use Rattle.std.proofs.Common.{◌≡◌, ℕ, zero, suc, ◌+◌, ◌*◌, ◌<◌, ◌≤◌, Bool, true, false, cond, ◌&&◌, ◌||◌, eqb, ltb, leb, ◌⊎◌, List, [], ◌∷◌, ◌++◌, length, drop, ℤ, pos, ◌+ℤ◌, ◌≤ℤ◌, Some, None, Ok, Err, Option, sym, refl, ap, ◌∙◌, subst, inl, inr, ⊎_elim, append_assoc, arith, length-append}
+use Rattle.std.proofs.Common.{◌≡◌, ℕ, zero, suc, ◌+◌, ◌*◌, ◌<◌, ◌≤◌, Bool, true, false, ◌&&◌, ◌||◌, eqb, ltb, leb, List, [], ◌∷◌, ◌++◌, length, drop, ℤ, pos, ◌+ℤ◌, Some, Ok, sym, refl, ap, ◌∙◌, subst, ⊎_elim, append_assoc, arith, length-append}
 use borrow.Author.Differences.{ints}
 use lib.Signed.{le_z}
 use Rattle.std.proofs.lemmas.Bool.{and_parts, or_cases, ltb-true, leb-true, eqb-true}
@@ -7,12 +7,11 @@ use Rattle.numbers.specs.declared.number.Number.{Number}
 use Rattle.numbers.specs.declared.fault.Fault.{Fault}
 use Rattle.numbers.specs.declared.fault.Fault.TheVariants.{Undef, MissElt, PosOver, NegOver, Unknown, ZeroDivide}
 use Rattle.numbers.specs.Faults.{code_of}
-use Rattle.values.specs.declared.refusal.Refusal.{Refusal}
 use Rattle.values.specs.declared.refusal.Refusal.TheVariants.{Strange, Clash}
 use Rattle.values.specs.Values.{Value, boolean, integer, error, array, record_of, union, Values, none, ◌then◌, members, encode, encode_row, word, two_bytes, bit}
 use Rattle.values.specs.Trees.{Tree, Trees, Basic, Indexed, Each, Of, RowOf, OneOf}
-use Rattle.value_reader.specs.Bytes.{byte, pair_at, word_at, two_fit, four_fit}
-use Rattle.value_reader.specs.Reading.{Verdict, given, and_then, admitted, opens, after, boolean_at, integer_at, proper_at, ranged, indexed_at, repeated, array_at, record_at, union_at, count_of, read, reads, chosen}
+use Rattle.value_reader.specs.Bytes.{byte, pair_at, word_at, two_fit}
+use Rattle.value_reader.specs.Reading.{Verdict, admitted, opens, after, boolean_at, integer_at, proper_at, ranged, indexed_at, repeated, array_at, record_at, union_at, count_of, read, reads, chosen}
 use Rattle.value_reader.proofs.Drops.{Span, onward, one_drop, two_drop, four_drop, two_of, proper_number}
 use Rattle.value_reader.proofs.Inverse.{given_inv, then_inv, after_inv, opens_own, opens_fault}
 

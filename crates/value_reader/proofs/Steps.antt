@@ -1,7 +1,6 @@
 -- The steps of the reader.
-use Rattle.std.proofs.Common.{◌≡◌, ℕ, zero, suc, ◌+◌, ◌-◌, ◌<◌, ◌≤◌, Bool, true, false, cond, ◌&&◌, ltb, List, [], ◌∷◌, length, get_or, drop, Some, None, Ok, Err, Option, sym, refl, ap, ◌∙◌, subst, zero-add, arith}
+use Rattle.std.proofs.Common.{◌≡◌, ℕ, zero, suc, ◌+◌, ◌-◌, ◌<◌, ◌≤◌, Bool, true, false, cond, ltb, List, [], ◌∷◌, length, get_or, drop, Some, None, Ok, Err, Option, sym, refl, ap, ◌∙◌, arith}
 use Rattle.std.proofs.lemmas.List.{drop_more, drop_all}
-use Rattle.std.proofs.lemmas.Option.{slice_get-get_or, slice_get_past}
 use Rattle.std.proofs.lemmas.Bool.{and_parts, ltb-true, ltb-false}
 use Rattle.std.specs.List.{slice_get}
 use Rattle.values.specs.declared.refusal.Refusal.{Refusal}
@@ -9,7 +8,7 @@ use Rattle.values.specs.declared.refusal.Refusal.TheVariants.{Clash}
 use Rattle.values.specs.declared.members.Members.{Members}
 use Rattle.values.specs.declared.row.Row.{Row}
 use Rattle.values.specs.declared.row.Row.TheVariants.{Array, Record, Union}
-use Rattle.values.specs.Trees.{Tree, Trees}
+use Rattle.values.specs.Trees.{Tree}
 use Rattle.values.specs.Rows.{used, all_below, uses, sound, trees_of, tree, table, tree_at}
 use Rattle.values.specs.Tables.{row_of}
 use Rattle.values.proofs.Grown.{table_row, table_boolean, table_integer}

@@ -1,6 +1,6 @@
 -- How a value is passed over without its type: the heads of its records say how long they are and how many values
 -- stand in them.
-use Rattle.std.specs.Prelude.{◌≡◌, ℕ, zero, suc, ◌+◌, ◌-◌, Bool, true, false, cond, ◌&&◌, ◌||◌, List, ◌++◌, length, drop, Some, None, Option, ◌==◌, nat_le, nat_lt}
+use Rattle.std.specs.Prelude.{◌≡◌, ℕ, zero, suc, ◌+◌, ◌-◌, cond, ◌&&◌, List, ◌++◌, length, drop, Some, None, Option, ◌==◌, nat_le, nat_lt}
 use Rattle.values.specs.Values.{Value, size, encode}
 use Rattle.values.specs.Trees.{Tree, Of}
 use Rattle.value_reader.specs.declared.skip.Head.{Head}

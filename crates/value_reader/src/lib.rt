@@ -1,4 +1,6 @@
 // Reads bytes as values of a type: front to back, with the first failure as the answer.
+#![tactic(auto)]
+
 mod bodies;
 mod bytes;
 mod heads;

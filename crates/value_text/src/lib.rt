@@ -1,4 +1,6 @@
 // Types, bytes and values as text, for people at a command line.
+#![tactic(auto)]
+
 mod hex;
 mod problem;
 mod rows;

@@ -1,9 +1,9 @@
 -- Whatever encodes a typed expression is accepted.
-use Rattle.std.proofs.Common.{◌≡◌, ℕ, zero, suc, ◌+◌, ◌-◌, ◌*◌, ◌<◌, ◌≤◌, max, Bool, true, false, cond, ◌&&◌, eqb, ltb, leb, ◌⊎◌, List, [], ◌∷◌, ◌++◌, length, get_or, replicate, Some, None, Option, sym, refl, ap, ◌∙◌, subst, ap₂, inl, inr, ⊎_elim, add-one, arith, w32, to_z, of_z}
+use Rattle.std.proofs.Common.{◌≡◌, ℕ, zero, suc, ◌+◌, ◌-◌, ◌*◌, ◌<◌, ◌≤◌, Bool, true, false, cond, eqb, ltb, List, [], ◌∷◌, ◌++◌, length, get_or, replicate, Some, None, Option, sym, refl, ap, ◌∙◌, subst, ap₂, ⊎_elim, add-one, arith, w32, to_z}
 use Rattle.std.specs.List.{slice_get}
 use Rattle.std.proofs.lemmas.List.{append-nil}
 use Rattle.std.proofs.lemmas.Option.{slice_get_past}
-use Rattle.std.proofs.lemmas.Bool.{and_parts, and_from, le-leb, lt-ltb, ltb-true, ltb-false, eq-eqb, false≢true, true≢false, cases_lt}
+use Rattle.std.proofs.lemmas.Bool.{and_parts, and_from, le-leb, lt-ltb, eq-eqb, false≢true, cases_lt}
 use Rattle.numbers.specs.declared.number.Number.{Number}
 use Rattle.numbers.specs.declared.fault.Fault.{Fault}
 use Rattle.numbers.specs.declared.fault.Fault.TheVariants.{Undef, MissElt, PosOver, NegOver, Unknown, ZeroDivide}
@@ -12,10 +12,9 @@ use Rattle.numbers.specs.Faults.{code_of, of_code}
 use Rattle.numbers.proofs.Judging.{judged_proper}
 use Rattle.merging.specs.declared.bundle.IntegerMerge.TheVariants as integers
 use Rattle.merging.specs.declared.bundle.BooleanMerge.TheVariants as booleans
-use Rattle.values.specs.declared.members.Members.{Members}
 use Rattle.values.specs.declared.row.Row.{Row}
 use Rattle.values.specs.declared.row.Row.TheVariants as rows
-use Rattle.values.specs.declared.refusal.Refusal.TheVariants.{Cut, Strange, Deep, Undeclared, Clash}
+use Rattle.values.specs.declared.refusal.Refusal.TheVariants.{Strange, Deep, Undeclared, Clash}
 use Rattle.values.specs.Rows.{used, all_below}
 use Rattle.values.specs.Tables.{row_of}
 use Rattle.values.specs.Values.{word, bit}
@@ -33,21 +32,21 @@ use Rattle.language.specs.declared.node.One.TheVariants as one
 use Rattle.language.specs.declared.node.Two.{Two}
 use Rattle.language.specs.declared.node.Two.TheVariants as two
 use Rattle.language.specs.Syntax.{Expr, Exprs, LoopEnd, LoopEnds, list, integer, boolean, error, name, unary, binary, if, let_in, tagcase, for, forall, call, record_of, field, union, array, element, none, ◌then◌, iter, done, if_end, let_end, tagcase_end, no_ends, ◌or◌, count, count_ends}
-use Rattle.language.specs.Encoding.{encode_expr, encode_all, encode_end, encode_ends, encode_uses, merge_code, merge_type, unary_code, binary_code}
-use Rattle.language.specs.Sorts.{declared, present, same, has_fault, takes, gives, operand, result_of, element_of, fields_of, tags_of, element_in, fields_in, tags_in, part_type, merged_type}
-use Rattle.language.specs.Typing.{Context, Signature, Few, Every, Plain, Types, MembersTypes, ArmsTypes, EndTypes, EndsTypes, depth, depth_all, depth_end, depth_ends}
+use Rattle.language.specs.Encoding.{encode_expr, encode_all, encode_end, encode_ends, encode_uses, unary_code, binary_code}
+use Rattle.language.specs.Sorts.{declared, same, has_fault, operand, element_of, fields_of, tags_of, element_in, fields_in, tags_in}
+use Rattle.language.specs.Typing.{Context, Few, Plain, Types, MembersTypes, ArmsTypes, EndTypes, EndsTypes, depth, depth_all, depth_end, depth_ends}
 use Rattle.verdict.specs.declared.kinds.Sort.{Sort}
 use Rattle.verdict.specs.declared.kinds.Sort.TheVariants as sort
 use Rattle.verdict.specs.declared.kinds.Head.{Head}
 use Rattle.verdict.specs.declared.kinds.Head.TheVariants as head
-use Rattle.verdict.specs.Outcomes.{Out, accepted, refused, after, judged, passes, found, each, first_at, whole, body, lookup}
-use Rattle.verdict.specs.Bodies.{sorts, end_sorts, kind_at, operations, operators, few, proper_in, number_from, fault_if, use_at, uses_at, members_of, typed_as, head_at}
-use Rattle.verdict.specs.Judging.{Typed, typed, single, of_one, matches, is_one, all_of, parameters_in, results_in, tag_in, judge_one, judge_two, bound, arms_of, singles, firsts, agree, first_types, trees, ends}
-use Rattle.verdict.specs.Expressions.{leaf_tree, one_tree, two_tree, Reads, Ends, members_at, arms_at, ends_at, parts_at, end_parts_at, done_at, goes_on, record_at, end_record_at, expr, end}
+use Rattle.verdict.specs.Outcomes.{Out, accepted, after, judged, passes, found, each, whole, body, lookup}
+use Rattle.verdict.specs.Bodies.{sorts, end_sorts, kind_at, operations, proper_in, number_from, fault_if, use_at, uses_at, members_of, typed_as, head_at}
+use Rattle.verdict.specs.Judging.{Typed, typed, parameters_in, results_in, tag_in, judge_one, judge_two, bound, arms_of, singles, firsts, agree, first_types, trees, ends}
+use Rattle.verdict.specs.Expressions.{leaf_tree, one_tree, two_tree, members_at, arms_at, ends_at, parts_at, end_parts_at, goes_on, record_at, end_record_at, expr, end}
 use Rattle.verdict.proofs.Members.{few_true, used_members_of, zeroed_members_of, members_zeroed, members_few}
-use Rattle.verdict.proofs.Spans.{not_none, Span, span_cons, span_uncons, span_split, span_end, first_found, body_one, body_two, body_four}
+use Rattle.verdict.proofs.Spans.{not_none, Span, span_uncons, span_split, span_end, first_found, body_one, body_two, body_four}
 use Rattle.verdict.proofs.Heads.{sort_byte, head_sort, head_body, HeadFits}
-use Rattle.verdict.proofs.Sames.{same_refl, is_same, matches_is, is_one_is, all_of_is}
+use Rattle.verdict.proofs.Sames.{same_refl, matches_is, is_one_is, all_of_is}
 use Rattle.verdict.proofs.Sound.{first_byte, begins, leaf_bytes, one_bytes, two_bytes_are, one_depth, two_depth}
 
 -- Kinds.

@@ -1,23 +1,22 @@
 -- The verdict accepts exactly the encodings of well-typed modules.
-use Rattle.std.proofs.Common.{◌≡◌, ℕ, zero, suc, ◌+◌, ◌-◌, ◌<◌, ◌≤◌, Bool, true, false, cond, not, ◌&&◌, eqb, ltb, leb, List, [], ◌∷◌, ◌++◌, length, get_or, Some, None, Option, sym, refl, ap, ◌∙◌, subst, ap₂, add-one, arith}
+use Rattle.std.proofs.Common.{◌≡◌, ℕ, ◌+◌, ◌<◌, true, cond, eqb, leb, List, [], ◌∷◌, ◌++◌, length, get_or, Some, sym, refl, ap, ◌∙◌, subst, arith}
 use Rattle.std.proofs.lemmas.List.{append_assoc, append-nil}
-use Rattle.std.proofs.lemmas.Bool.{and_from, le-leb, eq-eqb, not_from_false}
+use Rattle.std.proofs.lemmas.Bool.{le-leb, eq-eqb, not_from_false}
 use Rattle.values.specs.declared.row.Row.{Row}
 use Rattle.values.specs.declared.row.Row.TheVariants as rows
-use Rattle.values.specs.declared.refusal.Refusal.TheVariants.{Cut, Strange, Twin, Clash, Oversize}
+use Rattle.values.specs.declared.refusal.Refusal.TheVariants.{Oversize}
 use Rattle.values.specs.Rows.{used, all_below, uses}
 use Rattle.language.specs.Syntax.{Expr, Function, Module}
 use Rattle.language.specs.Encoding.{encode_uses, encode_row, encode_rows, encode_function, encode_functions, encode_module, encode_expr}
-use Rattle.language.specs.Sorts.{same, has_twin}
-use Rattle.language.specs.Typing.{Context, context, Signature, signature, signatures, Few, Types, depth, RowFits, RowsFit, FunctionFits, FunctionsFit, WellTyped, ZeroedRow}
+use Rattle.language.specs.Typing.{Context, context, signatures, Few, RowFits, RowsFit, FunctionFits, FunctionsFit, WellTyped, ZeroedRow}
 use Rattle.verdict.specs.declared.kinds.Shape.{Shape}
 use Rattle.verdict.specs.declared.kinds.Shape.TheVariants as shape
-use Rattle.verdict.specs.Outcomes.{Out, accepted, refused, after, judged, passes, found, first_at, whole, body, lookup}
+use Rattle.verdict.specs.Outcomes.{accepted, refused, after, first_at, whole, body, lookup}
 use Rattle.verdict.specs.Bodies.{few, uses_at, members_of}
-use Rattle.verdict.specs.Judging.{Typed, typed}
+use Rattle.verdict.specs.Judging.{typed}
 use Rattle.verdict.specs.Expressions.{expr}
 use Rattle.verdict.specs.Modules.{shapes, counted_uses, shaped, row_at, rows_at, function_at, functions_at, module_at, verdict}
-use Rattle.verdict.specs.Exactness.{Bytes, Encodes, AcceptsExactly}
+use Rattle.verdict.specs.Exactness.{Encodes, AcceptsExactly}
 use Rattle.verdict.proofs.Members.{few_true, members_zeroed, members_few}
 use Rattle.verdict.proofs.Spans.{Span, span_uncons, span_split, span_end, span_self, first_found, body_one, body_two}
 use Rattle.verdict.proofs.Sames.{same_refl}

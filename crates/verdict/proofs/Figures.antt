@@ -1,10 +1,9 @@
 -- Verdicts by computing.
-use Rattle.std.proofs.Common.{◌≡◌, ℕ, Bool, true, false, List, [], ◌∷◌, refl}
-use Rattle.values.specs.declared.refusal.Refusal.TheVariants.{Clash, Cut, Strange}
-use Rattle.language.specs.Encoding.{encode_module, encode_functions, encode_rows, encode_expr, encode_uses}
+use Rattle.std.proofs.Common.{◌≡◌, ℕ, List, [], ◌∷◌, refl}
+use Rattle.values.specs.declared.refusal.Refusal.TheVariants.{Clash, Cut}
 use Rattle.verdict.specs.Outcomes.{Out, accepted, refused, each}
 use Rattle.verdict.specs.Bodies.{uses_at, members_of}
-use Rattle.verdict.specs.Expressions.{expr, end}
+use Rattle.verdict.specs.Expressions.{expr}
 use Rattle.verdict.specs.Modules.{verdict, rows_at, functions_at}
 
 passed : {A : Type 0} → Out A → List ℕ

@@ -1,10 +1,9 @@
 -- What the heads of records say, and that they are read back from their bytes.
-use Rattle.std.proofs.Common.{◌≡◌, ℕ, zero, suc, ◌+◌, ◌-◌, ◌*◌, ◌/◌, ◌%◌, ◌<◌, ◌≤◌, Bool, true, false, cond, ◌&&◌, eqb, ltb, leb, List, [], ◌∷◌, ◌++◌, length, get_or, replicate, ℤ, Some, None, Option, sym, refl, ap, ◌∙◌, subst, ap₂, arith, w32, to_z, of_z}
+use Rattle.std.proofs.Common.{◌≡◌, ℕ, zero, suc, ◌+◌, ◌*◌, ◌/◌, ◌%◌, ◌<◌, ◌≤◌, Bool, true, false, cond, ◌&&◌, eqb, ltb, leb, List, [], ◌∷◌, length, get_or, ℤ, Some, None, Option, sym, refl, ap, ◌∙◌, subst, arith, w32, to_z, of_z}
 use lib.Signed.{lt_z}
 use Rattle.std.specs.List.{slice_get}
-use Rattle.std.proofs.lemmas.Bool.{and_parts, and_from, leb-true, le-leb, ltb-true, lt-ltb, eqb-true, eq-eqb, true≢false, false≢true}
+use Rattle.std.proofs.lemmas.Bool.{and_parts, and_from, leb-true, ltb-true, eqb-true}
 use Rattle.std.proofs.lemmas.Int.{of_z-to_z}
-use Rattle.std.proofs.lemmas.Option.{slice_get_past}
 use Rattle.numbers.specs.declared.number.Number.{Number}
 use Rattle.numbers.specs.declared.fault.Fault.{Fault}
 use Rattle.numbers.specs.declared.fault.Fault.TheVariants.{Undef, MissElt, PosOver, NegOver, Unknown, ZeroDivide}
@@ -12,38 +11,25 @@ use Rattle.numbers.specs.declared.integer.Integer.{Integer}
 use Rattle.numbers.specs.declared.integer.Integer.TheVariants as integer
 use Rattle.numbers.specs.Integers as proper
 use Rattle.numbers.specs.Faults.{code_of, of_code}
-use Rattle.numbers.proofs.Judging.{judged_proper}
-use Rattle.merging.specs.declared.bundle.IntegerMerge.TheVariants as integers
-use Rattle.merging.specs.declared.bundle.BooleanMerge.TheVariants as booleans
-use Rattle.values.specs.declared.members.Members.{Members}
 use Rattle.values.specs.declared.row.Row.{Row}
-use Rattle.values.specs.declared.refusal.Refusal.{Refusal}
-use Rattle.values.specs.declared.refusal.Refusal.TheVariants.{Cut, Strange, Undeclared, Clash}
+use Rattle.values.specs.declared.refusal.Refusal.TheVariants.{Strange, Undeclared, Clash}
 use Rattle.values.specs.Rows.{used, all_below}
-use Rattle.values.specs.Tables.{row_of}
 use Rattle.values.specs.Values.{word, bit}
-use Rattle.values.proofs.Prefixes.{word_back}
-use Rattle.language.specs.declared.operation.Unary.{Unary}
-use Rattle.language.specs.declared.operation.Unary.TheVariants.{Negate, Abs, Not, IsFault, IsError, Lowest, Highest, Size}
-use Rattle.language.specs.declared.operation.Binary.{Binary}
-use Rattle.language.specs.declared.operation.Binary.TheVariants.{Plus, Minus, Times, Divide, Modulo, Max, Min, Equal, Unequal, Less, AtMost, Greater, AtLeast, And, Or}
-use Rattle.language.specs.declared.merge.Merge.{Merge}
-use Rattle.language.specs.declared.merge.Merge.TheVariants.{Collect, Integers, Booleans}
+use Rattle.language.specs.declared.merge.Merge.TheVariants.{Collect}
 use Rattle.language.specs.declared.node.Leaf.TheVariants as leaf
 use Rattle.language.specs.declared.node.One.TheVariants as one
 use Rattle.language.specs.declared.node.Two.TheVariants as two
 use Rattle.language.specs.Encoding.{unary_code, binary_code, merge_code, merge_type, encode_uses}
-use Rattle.language.specs.Sorts.{declared, present, has_fault, element_of, fields_of, tags_of, element_in, fields_in, tags_in, part_type}
+use Rattle.language.specs.Sorts.{declared, has_fault, element_of, fields_of, tags_of, part_type}
 use Rattle.language.specs.Typing.{Context, Few, Zeroed}
 use Rattle.verdict.specs.declared.kinds.Sort.{Sort}
 use Rattle.verdict.specs.declared.kinds.Sort.TheVariants as sort
 use Rattle.verdict.specs.declared.kinds.Head.{Head}
 use Rattle.verdict.specs.declared.kinds.Head.TheVariants as head
-use Rattle.verdict.specs.Outcomes.{Out, accepted, refused, after, judged, passes, found, each, first_at, whole, body, lookup}
+use Rattle.verdict.specs.Outcomes.{accepted, after, judged, passes, found, each, first_at, whole, body, lookup}
 use Rattle.verdict.specs.Bodies.{sorts, end_sorts, kind_at, operations, operators, few, proper_in, number_from, fault_if, use_at, uses_at, members_of, list_head, integer_head, boolean_head, error_head, name_head, operation_head, tagcase_head, for_head, typed_as, forall_head, call_head, record_head, field_head, union_head, array_head, head_at}
-use Rattle.verdict.specs.Judging.{tag_in}
-use Rattle.verdict.proofs.Members.{few_true, used_members_of, zeroed_members_of, members_zeroed, members_few}
-use Rattle.verdict.proofs.Spans.{not_none, after_inv, accepted_inv, judged_inv, passes_inv, found_inv, whole_inv, first_inv, Span, span_nil, span_cons, span_uncons, span_join, span_end, span_one, span_two, span_four, first_found, body_one, body_two, body_four}
+use Rattle.verdict.proofs.Members.{used_members_of, zeroed_members_of}
+use Rattle.verdict.proofs.Spans.{not_none, after_inv, accepted_inv, judged_inv, passes_inv, found_inv, whole_inv, first_inv, Span, span_nil, span_cons, span_join, span_one, span_two, span_four}
 
 -- The kind byte of a sort, the sort of a head, and its body.
 abbrev pub sort_byte : Sort → ℕ

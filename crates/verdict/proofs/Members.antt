@@ -1,9 +1,8 @@
 -- Members from a list of numbers.
-use Rattle.std.proofs.Common.{◌≡◌, ℕ, ◌+◌, ◌-◌, ◌<◌, ◌≤◌, Bool, true, false, ◌&&◌, leb, List, [], ◌∷◌, ◌++◌, length, take, replicate, sym, refl, ap, ◌∙◌, subst, ap₂, arith, length-append, length-take}
+use Rattle.std.proofs.Common.{◌≡◌, ℕ, ◌-◌, true, leb, List, ◌++◌, length, take, replicate, sym, refl, ap, ◌∙◌, subst, ap₂, arith, length-take}
 use denote.Struct.Props.{props}
 use Rattle.std.proofs.lemmas.List.{take_at}
 use Rattle.std.proofs.lemmas.Bool.{and_from, le-leb}
-use Rattle.numbers.specs.Integers.{by_test}
 use Rattle.numbers.proofs.Judging.{by_true}
 use Rattle.values.specs.declared.members.Members.{Members, counted-type}
 use Rattle.values.specs.Rows.{used}

@@ -1,10 +1,9 @@
 -- Whatever the verdict accepts is what the bytes encode, and typed.
-use Rattle.std.proofs.Common.{◌≡◌, ℕ, zero, suc, ◌+◌, ◌-◌, ◌<◌, ◌≤◌, max, Bool, true, false, cond, ◌&&◌, eqb, ltb, leb, List, [], ◌∷◌, ◌++◌, length, get_or, replicate, Some, None, Option, sym, refl, ap, ◌∙◌, subst, ap₂, append_assoc, append-nil, arith}
+use Rattle.std.proofs.Common.{◌≡◌, ℕ, zero, suc, ◌+◌, ◌<◌, ◌≤◌, max, Bool, true, false, ◌&&◌, eqb, leb, List, [], ◌∷◌, ◌++◌, length, get_or, Some, sym, refl, ap, ◌∙◌, subst, arith}
 use Rattle.std.specs.List.{slice_get}
-use Rattle.std.proofs.lemmas.Bool.{and_parts, leb-true, ltb-true, eqb-true, false≢true, true≢false}
+use Rattle.std.proofs.lemmas.Bool.{and_parts, leb-true, eqb-true, false≢true, true≢false}
 use Rattle.values.specs.declared.members.Members.{Members}
-use Rattle.values.specs.declared.refusal.Refusal.{Refusal}
-use Rattle.values.specs.declared.refusal.Refusal.TheVariants.{Cut, Strange, Deep, Undeclared, Clash}
+use Rattle.values.specs.declared.refusal.Refusal.TheVariants.{Strange, Deep, Undeclared, Clash}
 use Rattle.values.specs.Rows.{used}
 use Rattle.language.specs.declared.merge.Merge.{Merge}
 use Rattle.language.specs.declared.node.Leaf.{Leaf}
@@ -13,20 +12,20 @@ use Rattle.language.specs.declared.node.One.{One}
 use Rattle.language.specs.declared.node.One.TheVariants as one
 use Rattle.language.specs.declared.node.Two.{Two}
 use Rattle.language.specs.declared.node.Two.TheVariants as two
-use Rattle.language.specs.Syntax.{Expr, Exprs, LoopEnd, LoopEnds, list, integer, boolean, error, name, unary, binary, if, let_in, tagcase, for, forall, call, record_of, field, union, array, element, none, ◌then◌, iter, done, if_end, let_end, tagcase_end, no_ends, ◌or◌, count, count_ends}
+use Rattle.language.specs.Syntax.{Expr, LoopEnd, list, integer, boolean, error, name, unary, binary, if, let_in, tagcase, for, forall, call, record_of, field, union, array, element, iter, done, if_end, let_end, tagcase_end, count, count_ends}
 use Rattle.language.specs.Encoding.{encode_expr, encode_all, encode_end, encode_ends, encode_uses}
 use Rattle.language.specs.Sorts.{present, same, takes, gives, operand, result_of, element_of, fields_of, tags_of, merged_type}
-use Rattle.language.specs.Typing.{Context, Few, Every, Plain, Types, MembersTypes, ArmsTypes, EndTypes, EndsTypes, depth, depth_all, depth_end, depth_ends}
+use Rattle.language.specs.Typing.{Context, Plain, Types, MembersTypes, ArmsTypes, EndTypes, EndsTypes, depth, depth_all, depth_end, depth_ends}
 use Rattle.verdict.specs.declared.kinds.Sort.{Sort}
 use Rattle.verdict.specs.declared.kinds.Sort.TheVariants as sort
 use Rattle.verdict.specs.declared.kinds.Head.{Head}
 use Rattle.verdict.specs.declared.kinds.Head.TheVariants as head
-use Rattle.verdict.specs.Outcomes.{Out, accepted, refused, after, judged, passes, found, each}
+use Rattle.verdict.specs.Outcomes.{accepted, found, each}
 use Rattle.verdict.specs.Bodies.{sorts, end_sorts, kind_at, head_at}
 use Rattle.verdict.specs.Judging.{Typed, typed, single, of_one, matches, is_one, all_of, parameters_in, results_in, tag_in, judge_one, judge_two, bound, arms_of, singles, firsts, agree, first_types, trees, ends}
 use Rattle.verdict.specs.Expressions.{leaf_tree, one_tree, two_tree, Reads, Ends, one_at, two_at, members_at, list_at, if_at, let_at, arms_at, tagcase_at, for_at, forall_at, parts_at, iter_at, if_end_at, let_end_at, ends_at, tagcase_end_at, end_parts_at, done_at, goes_on, record_at, end_record_at, expr, end}
 use Rattle.verdict.proofs.Members.{members_few}
-use Rattle.verdict.proofs.Spans.{not_accepted, not_none, after_inv, accepted_inv, judged_inv, passes_inv, found_inv, Span, span_nil, span_cons, span_join}
+use Rattle.verdict.proofs.Spans.{not_accepted, after_inv, accepted_inv, judged_inv, found_inv, Span, span_nil, span_cons, span_join}
 use Rattle.verdict.proofs.Heads.{sort_byte, head_sort, head_body, HeadFits, HeadIs, head_sound, kind_inv, end_kind_inv}
 use Rattle.verdict.proofs.Sames.{same_true, single_inv, of_one_inv, matches_inv, is_one_inv, all_of_inv, parameters_inv, tag_inv}
 

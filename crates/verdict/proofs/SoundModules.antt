@@ -1,27 +1,26 @@
 -- Whatever module the verdict accepts is what the bytes encode, and well typed.
-use Rattle.std.proofs.Common.{◌≡◌, ℕ, zero, suc, ◌+◌, ◌-◌, ◌<◌, ◌≤◌, Bool, true, false, cond, not, ◌&&◌, eqb, ltb, leb, List, [], ◌∷◌, ◌++◌, length, get_or, Some, None, Option, sym, refl, ap, ◌∙◌, subst, arith}
+use Rattle.std.proofs.Common.{◌≡◌, ℕ, zero, suc, ◌+◌, ◌<◌, ◌≤◌, Bool, true, false, cond, not, ◌&&◌, eqb, leb, List, [], ◌∷◌, ◌++◌, length, get_or, sym, refl, ap, ◌∙◌, subst, arith}
 use Rattle.std.proofs.lemmas.List.{append_assoc, append-nil}
-use Rattle.std.proofs.lemmas.Bool.{and_parts, leb-true, eqb-true, not-true, false≢true}
+use Rattle.std.proofs.lemmas.Bool.{and_parts, leb-true, eqb-true, not-true}
 use Rattle.values.specs.declared.row.Row.{Row}
 use Rattle.values.specs.declared.row.Row.TheVariants as rows
 use Rattle.values.specs.declared.refusal.Refusal.TheVariants.{Cut, Strange, Twin, Clash, Oversize}
-use Rattle.values.specs.Rows.{used, all_below, uses}
+use Rattle.values.specs.Rows.{all_below, uses}
 use Rattle.language.specs.Syntax.{Function, Module}
 use Rattle.language.specs.Encoding.{encode_uses, encode_row, encode_rows, encode_function, encode_functions, encode_module, encode_expr}
 use Rattle.language.specs.Sorts.{same, has_twin}
-use Rattle.language.specs.Typing.{Context, context, Signature, signature, signatures, Few, Types, depth, RowFits, RowsFit, FunctionFits, FunctionsFit, WellTyped, ZeroedRow}
+use Rattle.language.specs.Typing.{Context, context, signature, signatures, Few, Types, RowFits, RowsFit, FunctionFits, FunctionsFit, WellTyped, ZeroedRow}
 use Rattle.verdict.specs.declared.kinds.Shape.{Shape}
 use Rattle.verdict.specs.declared.kinds.Shape.TheVariants as shape
-use Rattle.verdict.specs.Outcomes.{Out, accepted, refused, after, judged, passes, found, first_at, whole, body, lookup}
+use Rattle.verdict.specs.Outcomes.{accepted, refused, passes, found, first_at, whole, body, lookup}
 use Rattle.verdict.specs.Bodies.{few, uses_at, members_of}
-use Rattle.verdict.specs.Judging.{Typed}
 use Rattle.verdict.specs.Expressions.{expr}
 use Rattle.verdict.specs.Modules.{shapes, counted_uses, shaped, row_at, rows_at, function_at, functions_at, module_at, verdict}
 use Rattle.verdict.proofs.Members.{used_members_of, zeroed_members_of}
 use Rattle.verdict.proofs.Spans.{not_accepted, after_inv, accepted_inv, judged_inv, passes_inv, found_inv, whole_inv, first_inv, Span, span_nil, span_cons, span_join, span_one, span_two, span_all}
-use Rattle.verdict.proofs.Heads.{AllUnder, lookup_all, UsesAre, uses_sound, few_from}
+use Rattle.verdict.proofs.Heads.{lookup_all, UsesAre, uses_sound, few_from}
 use Rattle.verdict.proofs.Sames.{same_true}
-use Rattle.verdict.proofs.Sound.{Is, sound}
+use Rattle.verdict.proofs.Sound.{sound}
 
 abbrev pub shape_byte : Shape → ℕ
 shape_byte shape.Array = 0x12

@@ -1,5 +1,5 @@
 -- Kinds, bodies and uses: what is read and judged before the parts of a record.
-use Rattle.std.specs.Prelude.{◌≡◌, ℕ, ◌+◌, ◌-◌, ◌*◌, ◌≤◌, Bool, true, false, cond, ◌&&◌, List, [], ◌∷◌, ◌++◌, length, replicate, ℤ, Some, None, Option, ◌==◌, nat_le, nat_lt, refl}
+use Rattle.std.specs.Prelude.{◌≡◌, ℕ, ◌+◌, ◌-◌, ◌*◌, ◌≤◌, Bool, true, cond, ◌&&◌, List, [], ◌∷◌, ◌++◌, length, replicate, Some, None, Option, ◌==◌, nat_le, nat_lt, refl}
 use Rattle.std.proofs.Common.{arith, length-append, to_z}
 use Rattle.std.proofs.lemmas.List.{length-replicate}
 use Rattle.std.specs.Int.{w32}
@@ -16,8 +16,7 @@ use Rattle.merging.specs.declared.bundle.IntegerMerge.TheVariants as integers
 use Rattle.merging.specs.declared.bundle.BooleanMerge.TheVariants as booleans
 use Rattle.values.specs.declared.members.Members.{Members}
 use Rattle.values.specs.declared.row.Row.{Row}
-use Rattle.values.specs.declared.refusal.Refusal.{Refusal}
-use Rattle.values.specs.declared.refusal.Refusal.TheVariants.{Cut, Strange, Undeclared, Clash}
+use Rattle.values.specs.declared.refusal.Refusal.TheVariants.{Strange, Undeclared, Clash}
 use Rattle.language.specs.declared.operation.Unary.TheVariants.{Negate, Abs, Not, IsFault, IsError, Lowest, Highest, Size}
 use Rattle.language.specs.declared.operation.Binary.TheVariants.{Plus, Minus, Times, Divide, Modulo, Max, Min, Equal, Unequal, Less, AtMost, Greater, AtLeast, And, Or}
 use Rattle.language.specs.declared.merge.Merge.TheVariants.{Collect, Integers, Booleans}
@@ -30,7 +29,7 @@ use Rattle.verdict.specs.declared.kinds.Sort.{Sort}
 use Rattle.verdict.specs.declared.kinds.Sort.TheVariants as sort
 use Rattle.verdict.specs.declared.kinds.Head.{Head}
 use Rattle.verdict.specs.declared.kinds.Head.TheVariants as head
-use Rattle.verdict.specs.Outcomes.{Out, accepted, refused, after, judged, passes, found, each, first_at, whole, body, lookup}
+use Rattle.verdict.specs.Outcomes.{Out, accepted, after, judged, passes, found, each, first_at, whole, body, lookup}
 
 -- The kinds of expressions. At the end of a loop there is one more.
 abbrev pub sorts : List (ℕ × Sort)

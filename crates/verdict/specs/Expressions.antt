@@ -1,6 +1,5 @@
 -- The verdict on an expression, and on the end of a loop.
-use Rattle.std.specs.Prelude.{ℕ, zero, suc, ◌+◌, Bool, true, false, cond, ◌&&◌, List, [], ◌∷◌, ◌++◌, length, replicate}
-use Rattle.values.specs.declared.members.Members.{Members}
+use Rattle.std.specs.Prelude.{ℕ, zero, suc, Bool, true, false, ◌&&◌, List, [], ◌∷◌, ◌++◌, replicate}
 use Rattle.values.specs.declared.refusal.Refusal.TheVariants.{Strange, Deep, Clash}
 use Rattle.values.specs.Rows.{used}
 use Rattle.language.specs.declared.merge.Merge.{Merge}
@@ -10,14 +9,14 @@ use Rattle.language.specs.declared.node.One.{One}
 use Rattle.language.specs.declared.node.One.TheVariants as one
 use Rattle.language.specs.declared.node.Two.{Two}
 use Rattle.language.specs.declared.node.Two.TheVariants as two
-use Rattle.language.specs.Syntax.{Expr, Exprs, LoopEnd, LoopEnds, list, integer, boolean, error, name, unary, binary, if, let_in, tagcase, for, forall, call, record_of, field, union, array, element, iter, done, if_end, let_end, tagcase_end}
+use Rattle.language.specs.Syntax.{Expr, LoopEnd, list, integer, boolean, error, name, unary, binary, if, let_in, tagcase, for, forall, call, record_of, field, union, array, element, iter, done, if_end, let_end, tagcase_end}
 use Rattle.language.specs.Sorts.{same, merged_type}
 use Rattle.language.specs.Typing.{Context}
 use Rattle.verdict.specs.declared.kinds.Sort.{Sort}
 use Rattle.verdict.specs.declared.kinds.Sort.TheVariants as sort
 use Rattle.verdict.specs.declared.kinds.Head.{Head}
 use Rattle.verdict.specs.declared.kinds.Head.TheVariants as head
-use Rattle.verdict.specs.Outcomes.{Out, accepted, refused, after, judged, passes, found, each}
+use Rattle.verdict.specs.Outcomes.{Out, accepted, refused, after, judged, each}
 use Rattle.verdict.specs.Bodies.{sorts, end_sorts, kind_at, head_at}
 use Rattle.verdict.specs.Judging.{Typed, typed, judge_one, judge_two, bound, arms_of, singles, firsts, agree, first_types, trees, ends}
 

@@ -1,7 +1,6 @@
 -- What is judged after the last part: types and arities, and the names that a record binds.
 use Rattle.std.specs.Prelude.{ℕ, ◌+◌, Bool, true, false, ◌&&◌, List, [], ◌∷◌, ◌++◌, length, Some, None, Option, ◌==◌, nat_le, slice_index}
 use Rattle.std.specs.List.{slice_get}
-use Rattle.values.specs.declared.row.Row.{Row}
 use Rattle.values.specs.declared.refusal.Refusal.TheVariants.{Deep, Undeclared, Clash}
 use Rattle.language.specs.declared.node.One.{One}
 use Rattle.language.specs.declared.node.One.TheVariants as one
@@ -10,7 +9,7 @@ use Rattle.language.specs.declared.node.Two.TheVariants as two
 use Rattle.language.specs.Syntax.{Expr, Exprs, LoopEnd, LoopEnds, none, ◌then◌, no_ends, ◌or◌}
 use Rattle.language.specs.Sorts.{present, element_of, fields_of, tags_of, takes, gives, operand, result_of, same}
 use Rattle.language.specs.Typing.{Context, Signature}
-use Rattle.verdict.specs.Outcomes.{Out, accepted, refused, after, judged, passes, found}
+use Rattle.verdict.specs.Outcomes.{Out, accepted, after, judged, found}
 
 -- An expression with the types of its values.
 pub record Typed : Type 0 where

@@ -1,4 +1,6 @@
 // The verdict on bytes: the module that they encode, or the first failure.
+#![tactic(auto)]
+
 mod exactness;
 mod kinds;
 

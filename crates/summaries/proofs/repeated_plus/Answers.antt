@@ -1,4 +1,4 @@
-use Rattle.std.proofs.Common.{take, sym, ap, ◌∙◌, ap₂, take_all}
+use Rattle.std.proofs.Common.{sym, ap, ◌∙◌, ap₂, take_all}
 use Rattle.std.proofs.lemmas.List.Sums.{fold_more}
 use Rattle.arithmetic.specs.Arithmetic.{sum}
 use Rattle.summaries.specs.Orders.{from_first, zero}

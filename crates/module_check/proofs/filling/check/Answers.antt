@@ -1,4 +1,4 @@
-use Rattle.std.proofs.Common.{◌≡◌, ◌<◌, ◌≤◌, ◌⊎◌, length, Err, sym, refl, ◌∙◌, subst, inl, inr, arith}
+use Rattle.std.proofs.Common.{◌≡◌, ◌⊎◌, length, Err, sym, refl, subst, inr, arith}
 use Rattle.values.specs.declared.refusal.Refusal.TheVariants.{Memory, Oversize}
 use Rattle.verdict.specs.Outcomes.{refused}
 use Rattle.verdict.specs.Modules.{verdict}

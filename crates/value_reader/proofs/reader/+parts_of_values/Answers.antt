@@ -1,7 +1,7 @@
-use Rattle.std.proofs.Common.{◌≡◌, ◌+◌, ◌<◌, true, length, sym, refl, ap, ◌∙◌, subst, arith, rules}
+use Rattle.std.proofs.Common.{◌+◌, ◌<◌, sym, ap, ◌∙◌, arith, rules}
 use Rattle.std.proofs.lemmas.Result.{err_from_is_err_and}
 use Rattle.values.specs.Tables.{rows_of}
-use Rattle.values.specs.Rows.{used, table, tree, trees_of}
+use Rattle.values.specs.Rows.{used, table}
 use Rattle.value_reader.specs.Bytes.{byte}
 use Rattle.value_reader.specs.Reading.{read}
 use Rattle.value_reader.proofs.Steps.{nth_here, nth_below, repeated_fails, repeated_next, reads_fails, reads_next, reads_none, union_some, union_none, array_row, record_row, union_row, row_found, row_missed, boolean_row, integer_row}

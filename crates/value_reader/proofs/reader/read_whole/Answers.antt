@@ -1,5 +1,5 @@
 use Rattle.std.proofs.lemmas.Result.{err_from_is_err_and}
-use Rattle.std.proofs.Common.{◌≡◌, Ok, Err, ◌∙◌}
+use Rattle.std.proofs.Common.{◌≡◌}
 use Rattle.values.specs.Tables.{rows_of}
 use Rattle.value_reader.specs.Reading.{read_whole}
 use Rattle.value_reader.proofs.Accepting.{whole_fails, whole_longer, whole_ends, whole_exact, exact_at}

@@ -1,4 +1,4 @@
-use Rattle.std.proofs.Common.{refl, ap, ◌∙◌, subst, rules}
+use Rattle.std.proofs.Common.{ap, ◌∙◌, subst}
 use Rattle.numbers.specs.Faults.{code_of}
 use Rattle.value_reader.specs.Scalars.{Laid}
 use Rattle.value_reader.proofs.Finding.{truth_bytes, basic_bytes}

@@ -1,4 +1,4 @@
-use Rattle.std.proofs.Common.{refl, ◌∙◌, subst, w32, SFits, rules}
+use Rattle.std.proofs.Common.{◌∙◌, subst, w32, SFits, rules}
 use Rattle.std.proofs.lemmas.Int.{to_z-of_z}
 use Rattle.value_reader.specs.Scalars.{Laid}
 use Rattle.value_reader.proofs.Finding.{number_bytes, fault_bytes}

@@ -1,4 +1,4 @@
-use Rattle.std.proofs.Common.{◌≡◌, length, sym, refl, ◌∙◌, arith}
+use Rattle.std.proofs.Common.{length, refl, ◌∙◌, arith}
 use Rattle.value_reader.specs.Skipping.{skipped}
 use Rattle.value_reader.proofs.Skips.{none_owed, no_head, too_many, goes_on, skipped_skips}
 use Rattle.value_reader.proofs.skip.skip_value.Goals as goal

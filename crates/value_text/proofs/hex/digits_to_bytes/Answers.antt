@@ -1,4 +1,4 @@
-use Rattle.std.proofs.Common.{◌≡◌, ◌+◌, ◌*◌, drop, vec_items, sym, ap, ◌∙◌, arith}
+use Rattle.std.proofs.Common.{◌+◌, ◌*◌, drop, vec_items, sym, ap, ◌∙◌, arith}
 use Rattle.value_text.specs.Hex.{before, hex}
 use Rattle.value_text.proofs.Hexing.{odd_none, read_more, read_none, read_all}
 use Rattle.value_text.proofs.hex.digits_to_bytes.Goals as goal

@@ -1,4 +1,4 @@
-use Rattle.std.proofs.Common.{◌+◌, ◌*◌, ◌≤◌}
+use Rattle.std.proofs.Common.{◌+◌, ◌*◌}
 use Rattle.value_text.proofs.show.+shown_values.Given as goal
 
 abbrev pub decreases-show : goal.decreases-show

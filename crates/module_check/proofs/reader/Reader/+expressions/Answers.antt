@@ -1,14 +1,14 @@
-use Rattle.std.proofs.Common.{◌≡◌, ◌+◌, ◌-◌, ◌<◌, ◌≤◌, true, false, ◌&&◌, eqb, [], ◌∷◌, ◌++◌, length, get_or, replicate, Ok, Err, vec_items, sym, refl, ap, ◌∙◌, subst, arith, length-set, length-take, rules}
+use Rattle.std.proofs.Common.{◌-◌, ◌<◌, ◌≤◌, ◌&&◌, eqb, [], ◌∷◌, ◌++◌, length, replicate, Ok, Err, vec_items, sym, refl, ap, ◌∙◌, subst, arith, length-set, length-take, rules}
 use Rattle.std.proofs.lemmas.Result.{err_from_is_err_and}
 use Rattle.values.specs.Rows.{used}
 use Rattle.language.specs.Tables.{node}
 use Rattle.verdict.specs.Outcomes.{accepted}
-use Rattle.verdict.specs.Judging.{typed, bound}
-use Rattle.verdict.specs.Expressions.{expr, end, parts_at, goes_on}
+use Rattle.verdict.specs.Judging.{typed}
+use Rattle.verdict.specs.Expressions.{expr, end, parts_at}
 use Rattle.verdict.proofs.Members.{members_few}
 use Rattle.module_check.specs.Views.{names, context_of, counts_of}
 use Rattle.module_check.specs.Reading.{Declines, ExprRead, PartsRead, EndRead}
-use Rattle.module_check.proofs.Facts.{nth_there, nth_is, declines_after, used_cond}
+use Rattle.module_check.proofs.Facts.{nth_there, nth_is, used_cond}
 use Rattle.module_check.proofs.Steps.{closed, inside, expr_unread, expr_deep, expr_headless, expr_parts, end_unread, end_deep, end_headless, end_parts, end_done, leaf_read, one_read, two_read, if_read, let_read, tagcase_read, for_read, forall_read, iter_read, if_end_read, let_end_read, tagcase_end_read, done_read}
 use Rattle.module_check.proofs.Loops.{Listing, Arming, listing_none, listing_more, listing_fails, listing_clash, listing_done, arming_none, arming_more, arming_fails, arming_clash, arming_done, ending_none, ending_more, ending_fails, ending_done}
 use Rattle.module_check.proofs.reader.Reader.+expressions.Goals as goal

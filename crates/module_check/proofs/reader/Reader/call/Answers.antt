@@ -1,6 +1,4 @@
-use Rattle.std.proofs.Common.{◌≡◌, true, false, Some, vec_items, vec_len, sym, ap, ◌∙◌, arith}
-use Rattle.std.specs.List.{slice_get}
-use Rattle.module_check.specs.Views.{seen, seen_all}
+use Rattle.std.proofs.Common.{vec_items, vec_len, sym, ◌∙◌, arith}
 use Rattle.module_check.proofs.Facts.{nth_seen, nth_unseen}
 use Rattle.module_check.proofs.reader.Reader.call.Goals as goal
 

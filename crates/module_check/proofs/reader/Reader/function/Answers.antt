@@ -1,9 +1,8 @@
-use Rattle.std.proofs.Common.{◌≡◌, ℕ, ◌+◌, true, ◌++◌, length, vec_items, sym, refl, ap, ◌∙◌, rules}
+use Rattle.std.proofs.Common.{◌≡◌, ◌+◌, true, ◌++◌, vec_items, sym, ap, ◌∙◌, rules}
 use Rattle.values.specs.Rows.{used}
 use Rattle.language.specs.Tables.{flat, entry}
-use Rattle.verdict.specs.Outcomes.{body, accepted}
+use Rattle.verdict.specs.Outcomes.{body}
 use Rattle.verdict.specs.Bodies.{few, uses_at}
-use Rattle.verdict.specs.Judging.{typed}
 use Rattle.verdict.specs.Expressions.{expr}
 use Rattle.module_check.specs.Views.{names, context_of, counts_of}
 use Rattle.module_check.proofs.ModuleFacts.{function_reads}

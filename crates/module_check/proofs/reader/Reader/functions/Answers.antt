@@ -1,8 +1,7 @@
-use Rattle.std.proofs.Common.{◌≡◌, ◌-◌, cond, [], ◌∷◌, ◌++◌, is_ok, vec_items, sym, refl, ap, ◌∙◌, subst, arith}
+use Rattle.std.proofs.Common.{cond, [], ◌∷◌, ◌++◌, is_ok, vec_items, sym, refl, ap, ◌∙◌, subst}
 use Rattle.std.proofs.lemmas.Result.{err_from_is_err_and}
 use Rattle.values.specs.Tables.{rows_of}
 use Rattle.language.specs.Typing.{context}
-use Rattle.verdict.specs.Outcomes.{accepted}
 use Rattle.verdict.specs.Modules.{function_at}
 use Rattle.module_check.specs.Views.{seen_all}
 use Rattle.module_check.specs.Reading.{Declines}

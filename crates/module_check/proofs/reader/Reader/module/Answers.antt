@@ -1,4 +1,4 @@
-use Rattle.std.proofs.Common.{◌≡◌, ◌≤◌, [], length, sym, refl, ap, ◌∙◌, subst, arith, rules}
+use Rattle.std.proofs.Common.{◌≡◌, ◌≤◌, [], sym, ap, ◌∙◌, rules}
 use Rattle.values.specs.Tables.{rows_of}
 use Rattle.verdict.specs.Outcomes.{first_at, body}
 use Rattle.verdict.specs.Modules.{rows_at}

@@ -1,4 +1,4 @@
-use Rattle.std.proofs.Common.{◌≡◌, sym, refl, ◌∙◌, arith}
+use Rattle.std.proofs.Common.{sym, refl, ◌∙◌, arith}
 use Rattle.values.specs.Tables.{rows_of}
 use Rattle.values.proofs.Soundness.{sound_few}
 use Rattle.module_check.proofs.ModuleFacts.{twin_next, twin_found, twin_none, twin_all}
