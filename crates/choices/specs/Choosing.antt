@@ -2,7 +2,7 @@
 use Rattle.std.specs.Prelude.{◌≡◌, true, false, cond, ◌||◌, ◌⊎◌, List, [], ◌∷◌, ℤ, ◌≤ℤ◌, fold, int_lt, refl}
 use Rattle.std.proofs.Common.{sym, ap, subst, ◌∙◌, inl, inr, ⊎_elim, arith}
 use Rattle.std.specs.Int.{int_max}
-use Rattle.std.specs.List.{ContainsAt as Has, AllByRecursion as All}
+use Rattle.std.specs.List.{ContainsAt, AllByRecursion}
 use Rattle.std.proofs.lemmas.Int.{clamps, ints}
 use Rattle.std.proofs.lemmas.Bool.{cond-true, cond-false, cond_both, or_cases, or_parts, or_from, or_left, or_right, false≢true}
 use Rattle.std.proofs.ByRecursion.{has_append_right}
@@ -31,7 +31,7 @@ pub record Ranks (rank : Integer → ℤ) (start : Integer) (top : ℤ) : Type 0
   pub barred_top : (a : Integer) → barred a ≡ true → rank a ≡ top
   pub tells : (a b : Integer) → Tally a → Tally b → rank a ≡ rank b → a ≡ b
 
-has_first : (x : Integer) (xs : List Integer) → Has (x ∷ xs) x
+has_first : (x : Integer) (xs : List Integer) → ContainsAt (x ∷ xs) x
 has_first x xs = (0, omega arith, λ d. refl)
 
 module _ {rank : Integer → ℤ} {start : Integer} {top : ℤ} (r : Ranks rank start top) where
@@ -117,11 +117,11 @@ module _ {rank : Integer → ℤ} {start : Integer} {top : ℤ} (r : Ranks rank 
 
   -- c outranks the tally and the parts, and is the tally or one of them
   abbrev Best : Integer → List Integer → Integer → Type 0
-  Best t ps c = (rank t ≤ℤ rank c) × All (λ p. rank p ≤ℤ rank c) ps × ((c ≡ t) ⊎ Has ps c)
+  Best t ps c = (rank t ≤ℤ rank c) × AllByRecursion (λ p. rank p ≤ℤ rank c) ps × ((c ≡ t) ⊎ ContainsAt ps c)
 
-  one_of_all : (t p : Integer) (ps : List Integer) (c : Integer) → (choose t p ≡ t) ⊎ (choose t p ≡ p) → (c ≡ choose t p) ⊎ Has ps c → (c ≡ t) ⊎ Has (p ∷ ps) c
+  one_of_all : (t p : Integer) (ps : List Integer) (c : Integer) → (choose t p ≡ t) ⊎ (choose t p ≡ p) → (c ≡ choose t p) ⊎ ContainsAt ps c → (c ≡ t) ⊎ ContainsAt (p ∷ ps) c
   one_of_all t p ps c (inl u) (inl e) = inl (e ∙ u)
-  one_of_all t p ps c (inr u) (inl e) = inr (subst (Has (p ∷ ps)) (sym (e ∙ u)) (has_first p ps))
+  one_of_all t p ps c (inr u) (inl e) = inr (subst (ContainsAt (p ∷ ps)) (sym (e ∙ u)) (has_first p ps))
   one_of_all t p ps c (inl u) (inr h) = inr (has_append_right (p ∷ []) ps c h)
   one_of_all t p ps c (inr u) (inr h) = inr (has_append_right (p ∷ []) ps c h)
 
@@ -136,9 +136,9 @@ module _ {rank : Integer → ℤ} {start : Integer} {top : ℤ} (r : Ranks rank 
   best (p ∷ ps) t h e =
       let clear = or_parts (barred p) (any barred ps) e in
       let k = clear.0 in
-      let still_Open = ⊎_elim (λ u. ap barred u ∙ h) (λ u. ap barred u ∙ k) (one_of_both t p h k) in
+      let still_open = ⊎_elim (λ u. ap barred u ∙ h) (λ u. ap barred u ∙ k) (one_of_both t p h k) in
       subst (λ s. Best t (p ∷ ps) (onto s ps)) (sym (ap (choose t) (yields p k)))
-      (best_first t p ps (onto (choose t p) ps) h k (best ps (choose t p) still_Open clear.1))
+      (best_first t p ps (onto (choose t p) ps) h k (best ps (choose t p) still_open clear.1))
 
   pub chosen : (ps : List Integer) → Chosen (λ c p. rank p ≤ℤ rank c) start ps (meaning (choosing rank start) ps)
   chosen ps = record {

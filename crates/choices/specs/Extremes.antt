@@ -1,6 +1,6 @@
 -- The operators max and min, and what they mean for a list of integers.
 use Rattle.std.specs.Prelude.{◌≡◌, true, false, ◌⊎◌, List, ◌≤ℤ◌}
-use Rattle.std.specs.List.{ContainsAt as Has, AllByRecursion as All}
+use Rattle.std.specs.List.{ContainsAt, AllByRecursion}
 use Rattle.numbers.specs.declared.fault.Fault.TheVariants.{Undef, PosOver, NegOver}
 use Rattle.numbers.specs.declared.integer.Integer.{Integer}
 use Rattle.numbers.specs.declared.integer.Integer.TheVariants.{Error}
@@ -21,8 +21,8 @@ least_of = record { start = Error PosOver; tally = minimum (Error PosOver); join
 -- leads every part, and is the start or one of the parts.
 pub record Chosen (Leads : Integer → Integer → Type 0) (start : Integer) (ps : List Integer) (r : Integer) : Type 0 where
   pub undefined : any barred ps ≡ true → r ≡ Error Undef
-  pub leading : any barred ps ≡ false → All (Leads r) ps
-  pub one_of_them : any barred ps ≡ false → (r ≡ start) ⊎ Has ps r
+  pub leading : any barred ps ≡ false → AllByRecursion (Leads r) ps
+  pub one_of_them : any barred ps ≡ false → (r ≡ start) ⊎ ContainsAt ps r
 
 -- The max of every list has the highest rank: no part's is higher.
 abbrev pub MaxGreatest : Type 0
