@@ -1,7 +1,6 @@
-use Rattle.std.proofs.Common.{◌≡◌, ◌+◌, ◌-◌, drop, sym, ap, ◌∙◌, arith}
-use Rattle.arithmetic.specs.Arithmetic.{sum}
+use Rattle.std.proofs.Common.{◌≡◌, ◌+◌, ◌-◌, drop, sym, ap, ◌∙◌, arith, rules}
 use Rattle.summaries.specs.Orders.{from_last}
-use Rattle.summaries.proofs.Last.{last_none, last_more}
+use Rattle.summaries.proofs.Last.{last_none, added_last}
 use Rattle.summaries.proofs.repeated_plus_backwards.Goals as goal
 
 pub loop-i-init : goal.loop-i-init
@@ -12,6 +11,5 @@ loop-i-preserved c =
     let ps = c.args.readings.now in
     let i = c.loop-i.i in
     let next : (i - 1) + 1 ≡ i = omega arith in
-    c.plus-total.ensures
-    ∙ ap (λ t. sum t c.index-readings-i.result) (c.loop-i.invariant ∙ ap (λ k. from_last (drop k ps)) (sym next))
-    ∙ sym (last_more ps (i - 1) c.index-readings-i.result (omega arith) c.index-readings-i.is)
+    let later = c.loop-i.invariant ∙ ap (λ k. from_last (drop k ps)) (sym next) in
+    added_last ps (i - 1) _ _ _ (omega arith) later c.plus-total.ensures (search rules)
