@@ -10,45 +10,33 @@ use Rattle.numbers.specs.declared.fault.Fault.TheVariants.{Undef}
 use Rattle.numbers.specs.declared.integer.Integer.{Integer}
 use Rattle.numbers.specs.declared.integer.Integer.TheVariants.{Error}
 use Rattle.numbers.specs.Integers.{barred}
-use Rattle.merging.specs.Operators.{Definition, Laws, meaning}
-use Rattle.merging.proofs.Ranked.{ranked_laws, highest, higher}
+use Rattle.merging.specs.Operators.{meaning}
+use Rattle.merging.specs.Operations.{OperationLaws, combining}
 use Rattle.merging.specs.Parts.{any}
 use Rattle.choices.specs.Extremes.{Chosen}
-use Rattle.choices.specs.Tallies.{Tally, unbarred_tally}
 
 -- The one of two integers that has the higher rank.
 abbrev pub chosen_by : (Integer → ℤ) → Integer → Integer → Integer
 chosen_by rank j k = cond (barred j || barred k) (Error Undef) (cond (int_lt (rank j) (rank k)) k j)
 
-abbrev pub choosing : (Integer → ℤ) → Integer → Definition Integer Integer Integer
-choosing rank start = record { start = start; tally = chosen_by rank start; join = chosen_by rank; close = λ t. t }
-
--- The start has the lowest rank, what is barred the highest, and a tally has its rank alone.
-pub record Ranks (rank : Integer → ℤ) (start : Integer) (top : ℤ) : Type 0 where
+-- The start has the lowest rank, what is barred the highest, and a rank tells what has it: undef, where that is barred.
+pub record Ranks (rank : Integer → ℤ) (start : Integer) (top : ℤ) (of_rank : ℤ → Integer) : Type 0 where
   pub start_open : barred start ≡ false
   pub start_least : (a : Integer) → rank start ≤ℤ rank a
   pub below_top : (a : Integer) → rank a ≤ℤ top
   pub barred_top : (a : Integer) → barred a ≡ true → rank a ≡ top
-  pub tells : (a b : Integer) → Tally a → Tally b → rank a ≡ rank b → a ≡ b
+  pub tells_undef : of_rank (rank (Error Undef)) ≡ Error Undef
+  pub tells : (a : Integer) → barred a ≡ false → of_rank (rank a) ≡ a
 
 has_first : (x : Integer) (xs : List Integer) → ContainsAt (x ∷ xs) x
 has_first x xs = (0, omega arith, λ d. refl)
 
-module _ {rank : Integer → ℤ} {start : Integer} {top : ℤ} (r : Ranks rank start top) where
+module _ {rank : Integer → ℤ} {start : Integer} {top : ℤ} {of_rank : ℤ → Integer} (r : Ranks rank start top of_rank) where
   abbrev choose : Integer → Integer → Integer
   choose = chosen_by rank
 
   abbrev by_rank : Integer → Integer → Integer
   by_rank a b = cond (int_lt (rank a) (rank b)) b a
-
-  chosen_tally : (a b : Integer) → Tally a → (barred b ≡ false → Tally b) → Tally (choose a b)
-  chosen_tally a b u v =
-      cond_both (barred a || barred b) (Error Undef) (by_rank a b) Tally
-      (λ _. tt)
-      (λ e. cond_both (int_lt (rank a) (rank b)) b a Tally (λ _. v (or_parts (barred a) (barred b) e).1) (λ _. u))
-
-  part_tally : (p : Integer) → Tally (choose start p)
-  part_tally p = chosen_tally start p (unbarred_tally start r.start_open) (unbarred_tally p)
 
   by_rank_picks : (a b : Integer) → rank (by_rank a b) ≡ int_max (rank a) (rank b)
   by_rank_picks a b =
@@ -64,24 +52,49 @@ module _ {rank : Integer → ℤ} {start : Integer} {top : ℤ} (r : Ranks rank 
       (λ h. omega (arith, ints, clamps, t, r.barred_top b h, r.below_top a))
       (or_cases (barred a) (barred b) e)
 
-  -- What is chosen has the higher of the two ranks.
+  -- What is chosen has the higher of the two ranks, and its rank tells it.
   picks : (a b : Integer) → rank (choose a b) ≡ int_max (rank a) (rank b)
   picks a b =
       cond_both (barred a || barred b) (Error Undef) (by_rank a b) (λ c. rank c ≡ int_max (rank a) (rank b)) (top_picks a b) (λ _. by_rank_picks a b)
 
-  pub choosing_laws : Laws (choosing rank start)
-  choosing_laws = ranked_laws highest (record {
-    start_is = unbarred_tally start r.start_open;
-    tally_is = part_tally;
-    join_is = λ a b u v. chosen_tally a b u (λ _. v);
-    picks = λ a b u v. picks a b;
-    tells = r.tells;
-    yields = λ a u. higher (rank start) (rank a) (r.start_least a);
-  })
+  told : (a b : Integer) → of_rank (rank (choose a b)) ≡ choose a b
+  told a b =
+      cond_both (barred a || barred b) (Error Undef) (by_rank a b) (λ c. of_rank (rank c) ≡ c)
+      (λ _. r.tells_undef)
+      (λ e.
+      let open_both = or_parts (barred a) (barred b) e in
+      cond_both (int_lt (rank a) (rank b)) b a (λ c. of_rank (rank c) ≡ c) (λ _. r.tells b open_both.1) (λ _. r.tells a open_both.0))
+
+  by_ranks : (a b : Integer) → choose a b ≡ of_rank (int_max (rank a) (rank b))
+  by_ranks a b = sym (told a b) ∙ ap of_rank (picks a b)
+
+  choose_assoc : (a b c : Integer) → choose (choose a b) c ≡ choose a (choose b c)
+  choose_assoc a b c =
+      let same : int_max (rank (choose a b)) (rank c) ≡ int_max (rank a) (rank (choose b c)) = omega (arith, ints, clamps, picks a b, picks b c) in
+      by_ranks (choose a b) c ∙ ap of_rank same ∙ sym (by_ranks a (choose b c))
+
+  choose_comm : (a b : Integer) → choose a b ≡ choose b a
+  choose_comm a b =
+      let same : int_max (rank a) (rank b) ≡ int_max (rank b) (rank a) = omega (arith, ints, clamps) in
+      by_ranks a b ∙ ap of_rank same ∙ sym (by_ranks b a)
+
+  -- The start yields to whatever its rank tells.
+  start_yields : (a : Integer) → of_rank (rank a) ≡ a → choose start a ≡ a
+  start_yields a e =
+      let same : int_max (rank start) (rank a) ≡ rank a = omega (arith, ints, clamps, r.start_least a) in
+      by_ranks start a ∙ ap of_rank same ∙ e
+
+  pub choosing_laws : OperationLaws start choose
+  choosing_laws = record {
+    assoc = choose_assoc;
+    comm = choose_comm;
+    keeps_itself = start_yields start (r.tells start r.start_open);
+    keeps_combined = λ a b. start_yields (choose a b) (told a b);
+  }
 
   -- The start yields to every part to which the rules apply.
   yields : (p : Integer) → barred p ≡ false → choose start p ≡ p
-  yields p h = r.tells (choose start p) p (part_tally p) (unbarred_tally p h) (picks start p ∙ higher (rank start) (rank p) (r.start_least p))
+  yields p h = start_yields p (r.tells p h)
 
   one_of_both : (a b : Integer) → barred a ≡ false → barred b ≡ false → (choose a b ≡ a) ⊎ (choose a b ≡ b)
   one_of_both a b h k =
@@ -140,7 +153,7 @@ module _ {rank : Integer → ℤ} {start : Integer} {top : ℤ} (r : Ranks rank 
       subst (λ s. Best t (p ∷ ps) (onto s ps)) (sym (ap (choose t) (yields p k)))
       (best_first t p ps (onto (choose t p) ps) h k (best ps (choose t p) still_open clear.1))
 
-  pub chosen : (ps : List Integer) → Chosen (λ c p. rank p ≤ℤ rank c) start ps (meaning (choosing rank start) ps)
+  pub chosen : (ps : List Integer) → Chosen (λ c p. rank p ≤ℤ rank c) start ps (meaning (combining start choose) ps)
   chosen ps = record {
     undefined = undef_comes ps start;
     leading = λ e. (best ps start r.start_open e).1;

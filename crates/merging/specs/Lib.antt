@@ -1,4 +1,7 @@
 pub mod Operators
+pub mod Operations
+pub mod Sizing
+pub mod Combining
 pub mod Trees
 pub mod Merged
 pub mod Bundles

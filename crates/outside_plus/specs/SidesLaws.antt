@@ -6,7 +6,7 @@ use Rattle.std.proofs.lemmas.Int.{clamps, ints}
 use Rattle.numbers.specs.declared.integer.Integer.{Integer}
 use Rattle.numbers.specs.declared.integer.Integer.TheVariants.{Proper, Error}
 use Rattle.merging.specs.Operators.{Sized, Laws, most}
-use Rattle.merging.proofs.Sizing.{Kept, every_sized, laws_by}
+use Rattle.merging.specs.Sizing.{Kept, every_sized, laws_by}
 use Rattle.sums.specs.Notes.{or_assoc, or_comm, sum_assoc, sum_comm, sum_zero}
 use Rattle.outside_plus.specs.declared.Sides.{Sides}
 use Rattle.outside_plus.specs.TwoSums.{no_parts, one_part, together, two_sums}

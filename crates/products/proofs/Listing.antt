@@ -7,12 +7,13 @@ use Rattle.numbers.specs.declared.integer.Integer.TheVariants.{Proper, Error}
 use Rattle.numbers.specs.Integers.{judged, is_fault, barred}
 use Rattle.arithmetic.specs.Arithmetic.{is_zero}
 use Rattle.merging.specs.Operators.{meaning}
+use Rattle.merging.specs.Operations.{combining}
 use Rattle.merging.specs.Parts.{any}
 use Rattle.products.specs.Products.{weight, exact_product, TimesMultiplies}
-use Rattle.products.specs.Factors.{Factor, number, unknown, undefined, of_number, signed, factor, value, minus, mul, multiplied, Tally}
-use Rattle.products.specs.Multiplying.{settle, times_assoc, times_comm, times_one, value_tally}
+use Rattle.products.specs.Factors.{Factor, number, unknown, undefined, of_number, signed, factor, value, minus, mul, multiplied}
+use Rattle.products.specs.Multiplying.{settle, times_assoc, times_comm, times_one}
 use Rattle.products.specs.Rules.{below_zero, above_zero}
-use Rattle.products.specs.TimesLaws.{times_is, itself}
+use Rattle.products.specs.TimesLaws.{multiplied_is, times_one_right, value_again}
 
 -- The product of the factors of a list.
 abbrev factors : List Integer → Factor
@@ -32,10 +33,10 @@ next_is t p =
     ∙ settle y x
     ∙ ap value (times_comm y x)
 
-onto_factors : (ps : List Integer) (t : Integer) → Tally t → fold next t ps ≡ value (mul (factor t) (factors ps))
-onto_factors [] t h = sym (ap value (times_comm (factor t) (number false 1) ∙ times_one (factor t)) ∙ itself t h)
+onto_factors : (ps : List Integer) (t : Integer) → value (factor t) ≡ t → fold next t ps ≡ value (mul (factor t) (factors ps))
+onto_factors [] t h = sym (ap value (times_one_right (factor t)) ∙ h)
 onto_factors (p ∷ ps) t h =
-    onto_factors ps (next t p) (value_tally (mul (factor t) (factor (multiplied (judged (pos 1)) p))))
+    onto_factors ps (next t p) (value_again (mul (factor t) (factor (multiplied (judged (pos 1)) p))))
     ∙ ap (λ r. value (mul (factor r) (factors ps))) (next_is t p)
     ∙ settle (mul (factor t) (factor p)) (factors ps)
     ∙ times_assoc (factor t) (factor p) (factors ps)
@@ -141,7 +142,7 @@ comes_to (number s (suc m)) f h = sym (ap₂ (λ b n. answered b n f.unk f.exact
 
 pub times_multiplies : TimesMultiplies
 times_multiplies ps =
-    ap (λ d. meaning d ps) (sym times_is)
-    ∙ onto_factors ps (judged (pos 1)) tt
+    ap (λ m. meaning (combining (judged (pos 1)) m) ps) (sym multiplied_is)
+    ∙ onto_factors ps (judged (pos 1)) refl
     ∙ ap value (times_one (factors ps))
     ∙ comes_to (factors ps) (found ps) (told ps)

@@ -9,7 +9,7 @@ use Rattle.numbers.specs.declared.integer.Integer.TheVariants.{Proper, Error}
 use Rattle.numbers.specs.Integers.{is_fault, barred}
 use Rattle.arithmetic.specs.Arithmetic.{negative, positive}
 use Rattle.merging.specs.Operators.{Sized, Laws, most, tallied}
-use Rattle.merging.proofs.Sizing.{Kept, every_sized, laws_by}
+use Rattle.merging.specs.Sizing.{Kept, every_sized, laws_by}
 use Rattle.merging.specs.Parts.{any}
 use Rattle.sums.specs.declared.Sum.{Sum}
 use Rattle.sums.specs.Plus.{no_parts, one_part, together, settled, plus}

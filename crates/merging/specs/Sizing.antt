@@ -1,5 +1,5 @@
 -- Laws of an operator, shown under a fact of its tallies that is easier to use than `Sized`.
-use Rattle.std.proofs.Common.{◌≡◌, ℕ, ◌+◌, ◌≤◌}
+use Rattle.std.specs.Prelude.{◌≡◌, ℕ, ◌+◌, ◌≤◌}
 use Rattle.merging.specs.Operators.{Definition, Sized, sized_start, sized_tally, sized_join, Laws, most}
 
 -- `is n t` holds of the start and of each part's tally, and joins keep it.
