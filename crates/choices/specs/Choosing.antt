@@ -1,17 +1,19 @@
 -- An operator that keeps the part of the highest rank: its laws, and what it means for a list.
-use Rattle.std.specs.Prelude.{◌≡◌, true, false, cond, ◌||◌, ◌⊎◌, List, [], ◌∷◌, ℤ, ◌≤ℤ◌, fold, int_lt, refl}
+use Rattle.std.specs.Prelude.{◌≡◌, true, false, cond, ◌||◌, ◌⊎◌, List, [], ◌∷◌, ℤ, ◌≤ℤ◌, int_lt, refl}
 use Rattle.std.proofs.Common.{sym, ap, subst, ◌∙◌, inl, inr, ⊎_elim, arith}
 use Rattle.std.specs.Int.{int_max}
 use Rattle.std.specs.List.{ContainsAt, AllByRecursion}
 use Rattle.std.proofs.lemmas.Int.{clamps, ints}
 use Rattle.std.proofs.lemmas.Bool.{cond-true, cond-false, cond_both, or_cases, or_parts, or_from, or_left, or_right, false≢true}
-use Rattle.std.proofs.ByRecursion.{has_append_right}
+use Rattle.std.proofs.ByRecursion.{has_append_right, All-weaker}
 use Rattle.numbers.specs.declared.fault.Fault.TheVariants.{Undef}
 use Rattle.numbers.specs.declared.integer.Integer.{Integer}
 use Rattle.numbers.specs.declared.integer.Integer.TheVariants.{Error}
 use Rattle.numbers.specs.Integers.{barred}
 use Rattle.merging.specs.Operators.{meaning}
 use Rattle.merging.specs.Operations.{OperationLaws, combining}
+use Rattle.merging.specs.Free.{total, tallied_total}
+use Rattle.merging.specs.Combining.{combining_free}
 use Rattle.merging.specs.Parts.{any}
 use Rattle.choices.specs.Extremes.{Chosen}
 
@@ -78,84 +80,64 @@ module _ {rank : Integer → ℤ} {start : Integer} {top : ℤ} {of_rank : ℤ �
       let same : int_max (rank a) (rank b) ≡ int_max (rank b) (rank a) = omega (arith, ints, clamps) in
       by_ranks a b ∙ ap of_rank same ∙ sym (by_ranks b a)
 
-  -- The start yields to whatever its rank tells.
-  start_yields : (a : Integer) → of_rank (rank a) ≡ a → choose start a ≡ a
-  start_yields a e =
-      let same : int_max (rank start) (rank a) ≡ rank a = omega (arith, ints, clamps, r.start_least a) in
-      by_ranks start a ∙ ap of_rank same ∙ e
-
-  pub choosing_laws : OperationLaws start choose
-  choosing_laws = record {
-    assoc = choose_assoc;
-    comm = choose_comm;
-    keeps_itself = start_yields start (r.tells start r.start_open);
-    keeps_combined = λ a b. start_yields (choose a b) (told a b);
-  }
-
   -- The start yields to every part to which the rules apply.
   yields : (p : Integer) → barred p ≡ false → choose start p ≡ p
-  yields p h = start_yields p (r.tells p h)
+  yields p h =
+      let same : int_max (rank start) (rank p) ≡ rank p = omega (arith, ints, clamps, r.start_least p) in
+      by_ranks start p ∙ ap of_rank same ∙ r.tells p h
+
+  pub choosing_laws : OperationLaws start choose
+  choosing_laws = record { assoc = choose_assoc; comm = choose_comm; neutral_kept = yields start r.start_open }
+
+  bars : (a b : Integer) → (barred a || barred b) ≡ true → choose a b ≡ Error Undef
+  bars a b e = cond-true (barred a || barred b) _ _ e
 
   one_of_both : (a b : Integer) → barred a ≡ false → barred b ≡ false → (choose a b ≡ a) ⊎ (choose a b ≡ b)
   one_of_both a b h k =
       cond_both (int_lt (rank a) (rank b)) b a (λ c. choose a b ≡ c → (choose a b ≡ a) ⊎ (choose a b ≡ b)) (λ _. inr) (λ _. inl)
       (cond-false (barred a || barred b) _ _ (or_from (barred a) (barred b) h k))
 
-  -- the choice among a tally and the parts of a list
-  abbrev onto : Integer → List Integer → Integer
-  onto t ps = fold (λ t p. choose t (choose start p)) t ps
+  -- the choice among the parts of a list
+  abbrev best : List Integer → Integer
+  best ps = total (combining start choose) ps
 
-  bars : (a b : Integer) → (barred a || barred b) ≡ true → choose a b ≡ Error Undef
-  bars a b e = cond-true (barred a || barred b) _ _ e
-
-  undef_stays : (ps : List Integer) (t : Integer) → t ≡ Error Undef → onto t ps ≡ Error Undef
-  undef_stays [] t e = e
-  undef_stays (p ∷ ps) t e =
-      undef_stays ps (choose t (choose start p)) (bars t (choose start p) (or_left (barred t) (barred (choose start p)) (ap barred e)))
-
-  undef_at : (t p : Integer) → barred p ≡ true → choose t (choose start p) ≡ Error Undef
-  undef_at t p h =
+  best_undef : (ps : List Integer) → any barred ps ≡ true → best ps ≡ Error Undef
+  best_undef [] e = absurd (false≢true e)
+  best_undef (p ∷ ps) e =
       let q = choose start p in
-      let u = bars start p (or_right (barred start) (barred p) h) in
-      bars t q (or_right (barred t) (barred q) (ap barred u))
-
-  undef_comes : (ps : List Integer) (t : Integer) → any barred ps ≡ true → onto t ps ≡ Error Undef
-  undef_comes [] t e = absurd (false≢true e)
-  undef_comes (p ∷ ps) t e =
-      let s = choose t (choose start p) in
       ⊎_elim
-      (λ h. undef_stays ps s (undef_at t p h))
-      (λ h. undef_comes ps s h)
+      (λ h. bars q (best ps) (or_left (barred q) (barred (best ps)) (ap barred (bars start p (or_right (barred start) (barred p) h)))))
+      (λ h. bars q (best ps) (or_right (barred q) (barred (best ps)) (ap barred (best_undef ps h))))
       (or_cases (barred p) (any barred ps) e)
 
-  -- c outranks the tally and the parts, and is the tally or one of them
-  abbrev Best : Integer → List Integer → Integer → Type 0
-  Best t ps c = (rank t ≤ℤ rank c) × AllByRecursion (λ p. rank p ≤ℤ rank c) ps × ((c ≡ t) ⊎ ContainsAt ps c)
+  -- c outranks the parts, and is the start or one of them
+  record Best (ps : List Integer) (c : Integer) : Type 0 where
+    open_too : barred c ≡ false
+    leads : AllByRecursion (λ p. rank p ≤ℤ rank c) ps
+    among : (c ≡ start) ⊎ ContainsAt ps c
 
-  one_of_all : (t p : Integer) (ps : List Integer) (c : Integer) → (choose t p ≡ t) ⊎ (choose t p ≡ p) → (c ≡ choose t p) ⊎ ContainsAt ps c → (c ≡ t) ⊎ ContainsAt (p ∷ ps) c
-  one_of_all t p ps c (inl u) (inl e) = inl (e ∙ u)
-  one_of_all t p ps c (inr u) (inl e) = inr (subst (ContainsAt (p ∷ ps)) (sym (e ∙ u)) (has_first p ps))
-  one_of_all t p ps c (inl u) (inr h) = inr (has_append_right (p ∷ []) ps c h)
-  one_of_all t p ps c (inr u) (inr h) = inr (has_append_right (p ∷ []) ps c h)
+  best_first : (p : Integer) (ps : List Integer) (c : Integer) → barred p ≡ false → Best ps c → Best (p ∷ ps) (choose p c)
+  best_first p ps c h b =
+      let e = picks p c in
+      let either = one_of_both p c h b.open_too in
+      record {
+        open_too = ⊎_elim (λ u. ap barred u ∙ h) (λ u. ap barred u ∙ b.open_too) either;
+        leads = (omega (arith, ints, clamps, e), All-weaker (λ q. rank q ≤ℤ rank c) (λ q. rank q ≤ℤ rank (choose p c)) (λ q k. omega (arith, ints, clamps, e)) ps b.leads);
+        among = ⊎_elim
+            (λ u. inr (subst (ContainsAt (p ∷ ps)) (sym u) (has_first p ps)))
+            (λ u. subst (λ q. (q ≡ start) ⊎ ContainsAt (p ∷ ps) q) (sym u) (⊎_elim inl (λ k. inr (has_append_right (p ∷ []) ps c k)) b.among))
+            either;
+      }
 
-  best_first : (t p : Integer) (ps : List Integer) (c : Integer) → barred t ≡ false → barred p ≡ false → Best (choose t p) ps c → Best t (p ∷ ps) c
-  best_first t p ps c h k b =
-      let higher_t : rank t ≤ℤ rank c = omega (arith, ints, clamps, picks t p, b.0) in
-      let higher_p : rank p ≤ℤ rank c = omega (arith, ints, clamps, picks t p, b.0) in
-      (higher_t, (higher_p, b.1), one_of_all t p ps c (one_of_both t p h k) b.2)
-
-  best : (ps : List Integer) (t : Integer) → barred t ≡ false → any barred ps ≡ false → Best t ps (onto t ps)
-  best [] t h e = (omega (arith, ints), tt, inl refl)
-  best (p ∷ ps) t h e =
+  best_is : (ps : List Integer) → any barred ps ≡ false → Best ps (best ps)
+  best_is [] e = record { open_too = r.start_open; leads = tt; among = inl refl }
+  best_is (p ∷ ps) e =
       let clear = or_parts (barred p) (any barred ps) e in
-      let k = clear.0 in
-      let still_open = ⊎_elim (λ u. ap barred u ∙ h) (λ u. ap barred u ∙ k) (one_of_both t p h k) in
-      subst (λ s. Best t (p ∷ ps) (onto s ps)) (sym (ap (choose t) (yields p k)))
-      (best_first t p ps (onto (choose t p) ps) h k (best ps (choose t p) still_open clear.1))
+      subst (λ q. Best (p ∷ ps) (choose q (best ps))) (sym (yields p clear.0)) (best_first p ps (best ps) clear.0 (best_is ps clear.1))
 
   pub chosen : (ps : List Integer) → Chosen (λ c p. rank p ≤ℤ rank c) start ps (meaning (combining start choose) ps)
-  chosen ps = record {
-    undefined = undef_comes ps start;
-    leading = λ e. (best ps start r.start_open e).1;
-    one_of_them = λ e. (best ps start r.start_open e).2;
-  }
+  chosen ps = subst (Chosen (λ c p. rank p ≤ℤ rank c) start ps) (sym (tallied_total (combining_free choosing_laws) ps)) (record {
+    undefined = best_undef ps;
+    leading = λ e. (best_is ps e).leads;
+    one_of_them = λ e. (best_is ps e).among;
+  })

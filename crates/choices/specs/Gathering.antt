@@ -1,14 +1,16 @@
 -- And and or: an operation on truth values that errors make undef, its laws, and what it means for a list.
-use Rattle.std.specs.Prelude.{◌≡◌, Bool, true, false, ◌&&◌, ◌||◌, List, [], ◌∷◌, fold, refl}
-use Rattle.std.proofs.Common.{sym, ap, subst, ◌∙◌}
+use Rattle.std.specs.Prelude.{◌≡◌, Bool, true, false, ◌&&◌, ◌||◌, cond, List, [], ◌∷◌, refl}
+use Rattle.std.proofs.Common.{sym, ap, ap₂, subst, ◌∙◌}
 use Rattle.std.proofs.Math.Path.{fun_ext}
 use Rattle.std.proofs.Math.Bool.{and_assoc, and_comm, or_assoc, or_comm}
 use Rattle.numbers.specs.declared.fault.BasicFault.TheVariants.{Undef}
 use Rattle.numbers.specs.declared.boolean.Boolean.{Boolean}
 use Rattle.numbers.specs.declared.boolean.Boolean.TheVariants.{Proper, Error}
-use Rattle.numbers.specs.Booleans.{both, either}
+use Rattle.numbers.specs.Booleans.{both, either, is_error}
 use Rattle.merging.specs.Operators.{meaning}
 use Rattle.merging.specs.Operations.{OperationLaws, combining}
+use Rattle.merging.specs.Free.{total, tallied_total}
+use Rattle.merging.specs.Combining.{combining_free}
 use Rattle.merging.specs.Parts.{any, every}
 use Rattle.choices.specs.Truths.{is_true, unless_error, AndAll, OrSome}
 
@@ -41,36 +43,23 @@ module _ {op : Bool → Bool → Bool} {start : Bool} (g : Gathers op start) whe
   lifted_comm (Error f) (Proper b) = refl
   lifted_comm (Error f) (Error h) = refl
 
-  lifted_neutral : (a b : Boolean) → lifted op (Proper start) (lifted op a b) ≡ lifted op a b
-  lifted_neutral (Proper a) (Proper b) = ap Proper (g.neutral (op a b))
-  lifted_neutral (Proper a) (Error f) = refl
-  lifted_neutral (Error f) b = refl
-
   gathering_laws : OperationLaws (Proper start) (lifted op)
-  gathering_laws = record {
-    assoc = lifted_assoc;
-    comm = lifted_comm;
-    keeps_itself = ap Proper (g.neutral start);
-    keeps_combined = lifted_neutral;
-  }
+  gathering_laws = record { assoc = lifted_assoc; comm = lifted_comm; neutral_kept = ap Proper (g.neutral start) }
 
-  abbrev onto : Boolean → List Boolean → Boolean
-  onto t ps = fold (λ t p. lifted op t (lifted op (Proper start) p)) t ps
+  -- One truth value more, before a list's or the error of the list.
+  lifted_first : (p t error : Bool) → lifted op (Proper p) (cond error (Error Undef) (Proper t)) ≡ cond error (Error Undef) (Proper (op p t))
+  lifted_first p t true = refl
+  lifted_first p t false = refl
 
-  onto_undef : (ps : List Boolean) → onto (Error Undef) ps ≡ Error Undef
-  onto_undef [] = refl
-  onto_undef (p ∷ ps) = onto_undef ps
+  gathering_means : (ps : List Boolean) → total (combining (Proper start) (lifted op)) ps ≡ unless_error ps (gathered op start ps)
+  gathering_means [] = refl
+  gathering_means (Proper p ∷ ps) =
+      ap₂ (λ q t. lifted op (Proper q) t) (g.neutral p) (gathering_means ps)
+      ∙ lifted_first p (gathered op start ps) (any is_error ps)
+  gathering_means (Error f ∷ ps) = refl
 
-  onto_truth : (ps : List Boolean) (t : Bool) → onto (Proper t) ps ≡ unless_error ps (op t (gathered op start ps))
-  onto_truth [] t = ap Proper (sym (g.comm t start ∙ g.neutral t))
-  onto_truth (Proper p ∷ ps) t =
-      ap (λ q. onto (Proper (op t q)) ps) (g.neutral p)
-      ∙ onto_truth ps (op t p)
-      ∙ ap (unless_error ps) (g.assoc t p (gathered op start ps))
-  onto_truth (Error f ∷ ps) t = onto_undef ps
-
-  gathering_means : (ps : List Boolean) → meaning (combining (Proper start) (lifted op)) ps ≡ unless_error ps (gathered op start ps)
-  gathering_means ps = onto_truth ps start ∙ ap (unless_error ps) (g.neutral (gathered op start ps))
+  gathering_stands : (ps : List Boolean) → meaning (combining (Proper start) (lifted op)) ps ≡ unless_error ps (gathered op start ps)
+  gathering_stands ps = tallied_total (combining_free gathering_laws) ps ∙ gathering_means ps
 
 and_gathers : Gathers ◌&&◌ true
 and_gathers = record { assoc = and_assoc; comm = and_comm; neutral = λ a. refl }
@@ -111,11 +100,11 @@ or_laws = subst (OperationLaws (Proper false)) lifted_either (gathering_laws or_
 pub and_all : AndAll
 and_all ps =
     ap (λ op. meaning (combining (Proper true) op) ps) (sym lifted_both)
-    ∙ gathering_means and_gathers ps
+    ∙ gathering_stands and_gathers ps
     ∙ ap (unless_error ps) (every_gathered ps)
 
 pub or_some : OrSome
 or_some ps =
     ap (λ op. meaning (combining (Proper false) op) ps) (sym lifted_either)
-    ∙ gathering_means or_gathers ps
+    ∙ gathering_stands or_gathers ps
     ∙ ap (unless_error ps) (any_gathered ps)

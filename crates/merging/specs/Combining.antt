@@ -1,21 +1,17 @@
 -- An operation's laws are those of its operator.
-use Rattle.std.specs.Prelude.{◌≡◌}
+use Rattle.std.proofs.Common.{sym, ap, ◌∙◌}
 use Rattle.merging.specs.Operators.{Laws}
 use Rattle.merging.specs.Operations.{combining, OperationLaws}
-use Rattle.merging.specs.Sizing.{Kept, laws_by}
+use Rattle.merging.specs.Free.{FreeLaws, free_laws}
 
 module _ {V : Type 0} {neutral : V} {combine : V → V → V} (laws : OperationLaws neutral combine) where
-  -- The neutral value changes no tally.
-  kept : Kept (combining neutral combine) (λ n t. combine neutral t ≡ t)
-  kept = record {
-    start_is = laws.keeps_itself;
-    tally_is = laws.keeps_combined neutral;
-    join_is = λ m n a b u v h. laws.keeps_combined a b;
+  pub combining_free : FreeLaws (combining neutral combine)
+  combining_free = record {
+    assoc = laws.assoc;
+    comm = laws.comm;
+    start_kept = laws.neutral_kept;
+    tally_kept = λ p. sym (laws.assoc neutral neutral p) ∙ ap (λ n. combine n p) laws.neutral_kept;
   }
 
   pub combining_laws : Laws (combining neutral combine)
-  combining_laws = laws_by kept (record {
-    assoc = λ k m n a b c u v w h. laws.assoc a b c;
-    comm = λ m n a b u v h. laws.comm a b;
-    neutral = λ n a u h. u;
-  })
+  combining_laws = free_laws combining_free

@@ -1,6 +1,7 @@
 pub mod Operators
 pub mod Operations
 pub mod Sizing
+pub mod Free
 pub mod Combining
 pub mod Trees
 pub mod Merged

@@ -1,13 +1,13 @@
 -- The laws of times, by factors.
-use Rattle.std.specs.Prelude.{◌≡◌, false, pos, refl}
+use Rattle.std.specs.Prelude.{◌≡◌, pos, refl}
 use Rattle.std.proofs.Common.{sym, ap, subst, ◌∙◌}
 use Rattle.std.proofs.Math.Path.{fun_ext}
 use Rattle.numbers.specs.declared.integer.Integer.{Integer}
 use Rattle.numbers.specs.Integers.{judged}
 use Rattle.arithmetic.specs.Arithmetic.{product}
 use Rattle.merging.specs.Operations.{OperationLaws}
-use Rattle.products.specs.Factors.{Factor, number, factor, value, mul, multiplied}
-use Rattle.products.specs.Multiplying.{settle, times_assoc, times_comm, times_one}
+use Rattle.products.specs.Factors.{factor, value, mul, multiplied}
+use Rattle.products.specs.Multiplying.{settle, times_assoc, times_comm}
 use Rattle.products.specs.Rules.{by_factors}
 
 pub multiplied_is : multiplied ≡ product
@@ -24,20 +24,8 @@ multiplied_assoc a b c =
     ∙ sym (settle (mul y z) x)
     ∙ ap value (times_comm (factor (value (mul y z))) x)
 
-pub times_one_right : (k : Factor) → mul k (number false 1) ≡ k
-times_one_right k = times_comm k (number false 1) ∙ times_one k
-
--- What a factor comes to counts as itself.
-pub value_again : (k : Factor) → value (factor (value k)) ≡ value k
-value_again k =
-    ap value (sym (times_one_right (factor (value k))))
-    ∙ settle k (number false 1)
-    ∙ ap value (times_one_right k)
+pub multiplied_laws : OperationLaws (judged (pos 1)) multiplied
+multiplied_laws = record { assoc = multiplied_assoc; comm = λ a b. ap value (times_comm (factor a) (factor b)); neutral_kept = refl }
 
 pub times_laws : OperationLaws (judged (pos 1)) product
-times_laws = subst (OperationLaws (judged (pos 1))) multiplied_is (record {
-  assoc = multiplied_assoc;
-  comm = λ a b. ap value (times_comm (factor a) (factor b));
-  keeps_itself = refl;
-  keeps_combined = λ a b. ap value (times_one (factor (multiplied a b))) ∙ value_again (mul (factor a) (factor b));
-})
+times_laws = subst (OperationLaws (judged (pos 1))) multiplied_is multiplied_laws
