@@ -12,7 +12,7 @@ use Rattle.numbers.specs.declared.integer.Integer.TheVariants.{Error}
 use Rattle.numbers.specs.Integers.{barred}
 use Rattle.merging.specs.Operators.{meaning}
 use Rattle.merging.specs.Operations.{OperationLaws, combining}
-use Rattle.merging.specs.Free.{total, tallied_total}
+use Rattle.merging.specs.Free.{from_last, tallied-from_last}
 use Rattle.merging.specs.Combining.{combining_free}
 use Rattle.merging.specs.Parts.{any}
 use Rattle.choices.specs.Extremes.{Chosen}
@@ -99,7 +99,7 @@ module _ {rank : Integer → ℤ} {start : Integer} {top : ℤ} {of_rank : ℤ �
 
   -- the choice among the parts of a list
   abbrev best : List Integer → Integer
-  best ps = total (combining start choose) ps
+  best ps = from_last (combining start choose) ps
 
   best_undef : (ps : List Integer) → any barred ps ≡ true → best ps ≡ Error Undef
   best_undef [] e = absurd (false≢true e)
@@ -136,7 +136,7 @@ module _ {rank : Integer → ℤ} {start : Integer} {top : ℤ} {of_rank : ℤ �
       subst (λ q. Best (p ∷ ps) (choose q (best ps))) (sym (yields p clear.0)) (best_first p ps (best ps) clear.0 (best_is ps clear.1))
 
   pub chosen : (ps : List Integer) → Chosen (λ c p. rank p ≤ℤ rank c) start ps (meaning (combining start choose) ps)
-  chosen ps = subst (Chosen (λ c p. rank p ≤ℤ rank c) start ps) (sym (tallied_total (combining_free choosing_laws) ps)) (record {
+  chosen ps = subst (Chosen (λ c p. rank p ≤ℤ rank c) start ps) (sym (tallied-from_last (combining_free choosing_laws) ps)) (record {
     undefined = best_undef ps;
     leading = λ e. (best_is ps e).leads;
     one_of_them = λ e. (best_is ps e).among;

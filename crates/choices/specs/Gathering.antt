@@ -9,7 +9,7 @@ use Rattle.numbers.specs.declared.boolean.Boolean.TheVariants.{Proper, Error}
 use Rattle.numbers.specs.Booleans.{both, either, is_error}
 use Rattle.merging.specs.Operators.{meaning}
 use Rattle.merging.specs.Operations.{OperationLaws, combining}
-use Rattle.merging.specs.Free.{total, tallied_total}
+use Rattle.merging.specs.Free.{from_last, tallied-from_last}
 use Rattle.merging.specs.Combining.{combining_free}
 use Rattle.merging.specs.Parts.{any, every}
 use Rattle.choices.specs.Truths.{is_true, unless_error, AndAll, OrSome}
@@ -51,7 +51,7 @@ module _ {op : Bool → Bool → Bool} {start : Bool} (g : Gathers op start) whe
   lifted_first p t true = refl
   lifted_first p t false = refl
 
-  gathering_means : (ps : List Boolean) → total (combining (Proper start) (lifted op)) ps ≡ unless_error ps (gathered op start ps)
+  gathering_means : (ps : List Boolean) → from_last (combining (Proper start) (lifted op)) ps ≡ unless_error ps (gathered op start ps)
   gathering_means [] = refl
   gathering_means (Proper p ∷ ps) =
       ap₂ (λ q t. lifted op (Proper q) t) (g.neutral p) (gathering_means ps)
@@ -59,7 +59,7 @@ module _ {op : Bool → Bool → Bool} {start : Bool} (g : Gathers op start) whe
   gathering_means (Error f ∷ ps) = refl
 
   gathering_stands : (ps : List Boolean) → meaning (combining (Proper start) (lifted op)) ps ≡ unless_error ps (gathered op start ps)
-  gathering_stands ps = tallied_total (combining_free gathering_laws) ps ∙ gathering_means ps
+  gathering_stands ps = tallied-from_last (combining_free gathering_laws) ps ∙ gathering_means ps
 
 and_gathers : Gathers ◌&&◌ true
 and_gathers = record { assoc = and_assoc; comm = and_comm; neutral = λ a. refl }

@@ -12,9 +12,9 @@ pub record FreeLaws {P T C : Type 0} (d : Definition P T C) : Type 0 where
   pub tally_kept : (p : P) → d.join d.start (d.tally p) ≡ d.tally p
 
 -- Each part's tally joined to that of the parts after it.
-abbrev pub total : {P T C : Type 0} → Definition P T C → List P → T
-total d [] = d.start
-total d (p ∷ ps) = d.join (d.tally p) (total d ps)
+abbrev pub from_last : {P T C : Type 0} → Definition P T C → List P → T
+from_last d [] = d.start
+from_last d (p ∷ ps) = d.join (d.tally p) (from_last d ps)
 
 module _ {P T C : Type 0} {d : Definition P T C} (laws : FreeLaws d) where
   join_kept : (a b : T) → d.join d.start a ≡ a → d.join d.start (d.join a b) ≡ d.join a b
@@ -30,14 +30,14 @@ module _ {P T C : Type 0} {d : Definition P T C} (laws : FreeLaws d) where
     neutral = λ n a s h. every_sized kept s;
   }
 
-  onto_total : (ps : List P) (t : T) → d.join d.start t ≡ t → fold (λ s p. d.join s (d.tally p)) t ps ≡ d.join t (total d ps)
-  onto_total [] t e = sym (laws.comm t d.start ∙ e)
-  onto_total (p ∷ ps) t e = onto_total ps (d.join t (d.tally p)) (join_kept t (d.tally p) e) ∙ laws.assoc t (d.tally p) (total d ps)
+  onto-from_last : (ps : List P) (t : T) → d.join d.start t ≡ t → fold (λ s p. d.join s (d.tally p)) t ps ≡ d.join t (from_last d ps)
+  onto-from_last [] t e = sym (laws.comm t d.start ∙ e)
+  onto-from_last (p ∷ ps) t e = onto-from_last ps (d.join t (d.tally p)) (join_kept t (d.tally p) e) ∙ laws.assoc t (d.tally p) (from_last d ps)
 
-  total_kept : (ps : List P) → d.join d.start (total d ps) ≡ total d ps
-  total_kept [] = laws.start_kept
-  total_kept (p ∷ ps) = join_kept (d.tally p) (total d ps) (laws.tally_kept p)
+  from_last_kept : (ps : List P) → d.join d.start (from_last d ps) ≡ from_last d ps
+  from_last_kept [] = laws.start_kept
+  from_last_kept (p ∷ ps) = join_kept (d.tally p) (from_last d ps) (laws.tally_kept p)
 
   -- A list's tally may as well be put together from the last part on.
-  pub tallied_total : (ps : List P) → tallied d ps ≡ total d ps
-  tallied_total ps = onto_total ps d.start laws.start_kept ∙ total_kept ps
+  pub tallied-from_last : (ps : List P) → tallied d ps ≡ from_last d ps
+  tallied-from_last ps = onto-from_last ps d.start laws.start_kept ∙ from_last_kept ps

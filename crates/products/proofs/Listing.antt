@@ -8,7 +8,7 @@ use Rattle.numbers.specs.Integers.{judged, is_fault, barred}
 use Rattle.arithmetic.specs.Arithmetic.{is_zero}
 use Rattle.merging.specs.Operators.{meaning}
 use Rattle.merging.specs.Operations.{combining}
-use Rattle.merging.specs.Free.{total, tallied_total}
+use Rattle.merging.specs.Free.{from_last, tallied-from_last}
 use Rattle.merging.specs.Combining.{combining_free}
 use Rattle.merging.specs.Parts.{any}
 use Rattle.products.specs.Products.{weight, exact_product, TimesMultiplies}
@@ -32,9 +32,9 @@ first_factor p k =
     ∙ settle k x
     ∙ ap value (times_comm k x)
 
-total_factors : (ps : List Integer) → total (combining (judged (pos 1)) multiplied) ps ≡ value (factors ps)
-total_factors [] = refl
-total_factors (p ∷ ps) = ap (multiplied (multiplied (judged (pos 1)) p)) (total_factors ps) ∙ first_factor p (factors ps)
+factored : (ps : List Integer) → from_last (combining (judged (pos 1)) multiplied) ps ≡ value (factors ps)
+factored [] = refl
+factored (p ∷ ps) = ap (multiplied (multiplied (judged (pos 1)) p)) (factored ps) ∙ first_factor p (factors ps)
 
 -- What is found in a list: whether it has something barred, a 0, unknown; and its exact product.
 record Found : Type 0 where
@@ -138,6 +138,6 @@ comes_to (number s (suc m)) f h = sym (ap₂ (λ b n. answered b n f.unk f.exact
 pub times_multiplies : TimesMultiplies
 times_multiplies ps =
     ap (λ m. meaning (combining (judged (pos 1)) m) ps) (sym multiplied_is)
-    ∙ tallied_total (combining_free multiplied_laws) ps
-    ∙ total_factors ps
+    ∙ tallied-from_last (combining_free multiplied_laws) ps
+    ∙ factored ps
     ∙ comes_to (factors ps) (found ps) (told ps)
