@@ -58,7 +58,8 @@ pub fn times(j: Integer, k: Integer) -> Integer
     }
 }
 
-// J / K, the fraction dropped toward zero
+// J / K, the fraction dropped toward zero. `divide` and `modulo` keep a match each: with the exact operation as a closure,
+// the contract of one function for both would be longer than the two.
 pub fn divide(j: Integer, k: Integer) -> Integer
     ensures { result ≡ quotient j k }
 {
@@ -130,7 +131,8 @@ fn sum_with_error(j: Integer, k: Integer) -> Integer
     }
 }
 
-// Rule 1a: pos_over + J.
+// Rule 1a: pos_over + J. It stays apart from 1b, since each function reads as its rule; one for both would take the over
+// and a test of the sign.
 fn sum_with_pos_over(j: Integer) -> Integer
     ensures { result ≡ pos_over_plus j }
 {

@@ -11,7 +11,7 @@ const POS_OVER: Integer = Integer::Error(Fault::PosOver);
 
 const NEG_OVER: Integer = Integer::Error(Fault::NegOver);
 
-// max(J, K)
+// max(J, K). It stays apart from min, since each arm is a rule of the one or of the other.
 pub fn max(j: Integer, k: Integer) -> Integer
     ensures { result ≡ maximum j k }
 {
