@@ -3,9 +3,10 @@
 
 ghost use Rattle.std.specs.Prelude.{◌≡◌, true, ◌||◌, pos, ◌+ℤ◌, ◌-ℤ◌, ◌*ℤ◌, ◌≢◌, int_div, unsigned_abs};
 ghost use Rattle.numbers.specs.Integers.{is_error, judged};
-ghost use Rattle.arithmetic.specs.Arithmetic.{negative, is_zero, positive, pos_over_plus, neg_over_plus, sum, negation, difference, times_pos_over, times_neg_over, times_unknown, product, quotient, modulus, magnitude};
+ghost use Rattle.arithmetic.specs.Arithmetic.{pos_over_plus, neg_over_plus, sum, negation, difference, times_pos_over, times_neg_over, times_unknown, product, quotient, modulus, magnitude};
 
 use numbers::{Fault, Integer, Number};
+use std::cmp::Ordering;
 
 const UNDEF: Integer = Integer::Error(Fault::Undef);
 
@@ -15,16 +16,15 @@ const POS_OVER: Integer = Integer::Error(Fault::PosOver);
 
 const NEG_OVER: Integer = Integer::Error(Fault::NegOver);
 
+const ZERO_DIVIDE: Integer = Integer::Error(Fault::ZeroDivide);
+
 // J + K
 pub fn plus(j: Integer, k: Integer) -> Integer
     ensures { result ≡ sum j k }
 {
-    match j {
-        Integer::Proper(m) => match k {
-            Integer::Proper(n) => exact_sum(m, n),
-            Integer::Error(_) => sum_with_error(j, k),
-        },
-        Integer::Error(_) => sum_with_error(j, k),
+    match (j, k) {
+        (Integer::Proper(m), Integer::Proper(n)) => exact_sum(m, n),
+        _ => sum_with_error(j, k),
     }
 }
 
@@ -33,13 +33,11 @@ pub fn negate(j: Integer) -> Integer
     ensures { result ≡ negation j }
 {
     match j {
-        Integer::Proper(n) => Integer::judge(-n.wide()),
-        Integer::Error(fault) => match fault {
-            Fault::PosOver => NEG_OVER,
-            Fault::NegOver => POS_OVER,
-            Fault::Unknown => UNKNOWN,
-            Fault::Undef | Fault::MissElt | Fault::ZeroDivide => UNDEF,
-        },
+        Integer::Proper(n) => Integer::judge(-i64::from(n)),
+        POS_OVER => NEG_OVER,
+        NEG_OVER => POS_OVER,
+        UNKNOWN => UNKNOWN,
+        Integer::Error(Fault::Undef | Fault::MissElt | Fault::ZeroDivide) => UNDEF,
     }
 }
 
@@ -54,30 +52,21 @@ pub fn minus(j: Integer, k: Integer) -> Integer
 pub fn times(j: Integer, k: Integer) -> Integer
     ensures { result ≡ product j k }
 {
-    match j {
-        Integer::Proper(m) => match k {
-            Integer::Proper(n) => exact_product(m, n),
-            Integer::Error(_) => product_with_error(j, k),
-        },
-        Integer::Error(_) => product_with_error(j, k),
+    match (j, k) {
+        (Integer::Proper(m), Integer::Proper(n)) => exact_product(m, n),
+        _ => product_with_error(j, k),
     }
 }
 
-// J / K, the fraction dropped toward zero
+// J / K, the fraction dropped toward zero. `divide` and `modulo` keep a match each: with the exact operation as a closure,
+// the contract of one function for both would be longer than the two.
 pub fn divide(j: Integer, k: Integer) -> Integer
     ensures { result ≡ quotient j k }
 {
-    match j {
-        Integer::Proper(m) => match k {
-            Integer::Proper(n) => {
-                if n.get() == 0 {
-                    return Integer::Error(Fault::ZeroDivide);
-                }
-                Integer::judge(m.wide() / n.wide())
-            }
-            Integer::Error(_) => UNDEF,
-        },
-        Integer::Error(_) => UNDEF,
+    match (j, k) {
+        (Integer::Proper(_), Integer::Proper(n)) if n.get() == 0 => ZERO_DIVIDE,
+        (Integer::Proper(m), Integer::Proper(n)) => Integer::judge(i64::from(m) / i64::from(n)),
+        _ => UNDEF,
     }
 }
 
@@ -85,17 +74,10 @@ pub fn divide(j: Integer, k: Integer) -> Integer
 pub fn modulo(j: Integer, k: Integer) -> Integer
     ensures { result ≡ modulus j k }
 {
-    match j {
-        Integer::Proper(m) => match k {
-            Integer::Proper(n) => {
-                if n.get() == 0 {
-                    return Integer::Error(Fault::ZeroDivide);
-                }
-                exact_remainder(m, n)
-            }
-            Integer::Error(_) => UNDEF,
-        },
-        Integer::Error(_) => UNDEF,
+    match (j, k) {
+        (Integer::Proper(_), Integer::Proper(n)) if n.get() == 0 => ZERO_DIVIDE,
+        (Integer::Proper(m), Integer::Proper(n)) => exact_remainder(m, n),
+        _ => UNDEF,
     }
 }
 
@@ -105,24 +87,22 @@ pub fn abs(j: Integer) -> Integer
 {
     match j {
         Integer::Proper(n) => exact_magnitude(n),
-        Integer::Error(fault) => match fault {
-            Fault::PosOver | Fault::NegOver => POS_OVER,
-            Fault::Unknown => UNKNOWN,
-            Fault::Undef | Fault::MissElt | Fault::ZeroDivide => UNDEF,
-        },
+        POS_OVER | NEG_OVER => POS_OVER,
+        UNKNOWN => UNKNOWN,
+        Integer::Error(Fault::Undef | Fault::MissElt | Fault::ZeroDivide) => UNDEF,
     }
 }
 
 fn exact_sum(m: Number, n: Number) -> Integer
     ensures { result ≡ judged (m.value +ℤ n.value) }
 {
-    Integer::judge(m.wide() + n.wide())
+    Integer::judge(i64::from(m) + i64::from(n))
 }
 
 fn exact_product(m: Number, n: Number) -> Integer
     ensures { result ≡ judged (m.value *ℤ n.value) }
 {
-    Integer::judge(m.wide() * n.wide())
+    Integer::judge(i64::from(m) * i64::from(n))
 }
 
 // What a division by a number other than 0 leaves.
@@ -130,53 +110,36 @@ fn exact_remainder(m: Number, n: Number) -> Integer
     requires { n.value ≢ pos 0 }
     ensures { result ≡ judged (m.value -ℤ n.value *ℤ int_div m.value n.value) }
 {
-    Integer::judge(m.wide() % n.wide())
+    Integer::judge(i64::from(m) % i64::from(n))
 }
 
 fn exact_magnitude(n: Number) -> Integer
     ensures { result ≡ judged (pos (unsigned_abs n.value)) }
 {
-    Integer::judge(n.wide().abs())
+    Integer::judge(i64::from(n).abs())
 }
 
-// Whether this is a proper number below 0.
-fn is_negative(j: Integer) -> bool
-    ensures { result ≡ negative j }
+fn sum_with_error(j: Integer, k: Integer) -> Integer
+    requires { (is_error j || is_error k) ≡ true }
+    ensures { result ≡ sum j k }
 {
-    match j {
-        Integer::Proper(n) => n.get() < 0,
-        Integer::Error(_) => false,
+    match (j, k) {
+        _ if j.is_barred() || k.is_barred() => UNDEF,
+        (POS_OVER, other) | (other, POS_OVER) => sum_with_pos_over(other),
+        (NEG_OVER, other) | (other, NEG_OVER) => sum_with_neg_over(other),
+        _ => UNKNOWN,
     }
 }
 
-// Whether this is the proper number 0.
-fn is_zero(j: Integer) -> bool
-    ensures { result ≡ is_zero j }
-{
-    match j {
-        Integer::Proper(n) => n.get() == 0,
-        Integer::Error(_) => false,
-    }
-}
-
-// Whether this is a proper number above 0.
-fn is_positive(j: Integer) -> bool
-    ensures { result ≡ positive j }
-{
-    match j {
-        Integer::Proper(n) => n.get() > 0,
-        Integer::Error(_) => false,
-    }
-}
-
-// Rule 1a: pos_over + J.
+// Rule 1a: pos_over + J. It stays apart from 1b, since each function reads as its rule; one for both would take the over
+// and a test of the sign.
 fn sum_with_pos_over(j: Integer) -> Integer
     ensures { result ≡ pos_over_plus j }
 {
-    if is_zero(j) | is_positive(j) | j.is_fault(Fault::PosOver) {
-        POS_OVER
-    } else {
-        UNKNOWN
+    match j {
+        Integer::Proper(n) if n.get() >= 0 => POS_OVER,
+        POS_OVER => POS_OVER,
+        _ => UNKNOWN,
     }
 }
 
@@ -184,29 +147,23 @@ fn sum_with_pos_over(j: Integer) -> Integer
 fn sum_with_neg_over(j: Integer) -> Integer
     ensures { result ≡ neg_over_plus j }
 {
-    if is_zero(j) | is_negative(j) | j.is_fault(Fault::NegOver) {
-        NEG_OVER
-    } else {
-        UNKNOWN
+    match j {
+        Integer::Proper(n) if n.get() <= 0 => NEG_OVER,
+        NEG_OVER => NEG_OVER,
+        _ => UNKNOWN,
     }
 }
 
-fn sum_with_error(j: Integer, k: Integer) -> Integer
+fn product_with_error(j: Integer, k: Integer) -> Integer
     requires { (is_error j || is_error k) ≡ true }
-    ensures { result ≡ sum j k }
+    ensures { result ≡ product j k }
 {
-    if j.is_barred() | k.is_barred() {
-        UNDEF
-    } else if j.is_fault(Fault::PosOver) {
-        sum_with_pos_over(k)
-    } else if k.is_fault(Fault::PosOver) {
-        sum_with_pos_over(j)
-    } else if j.is_fault(Fault::NegOver) {
-        sum_with_neg_over(k)
-    } else if k.is_fault(Fault::NegOver) {
-        sum_with_neg_over(j)
-    } else {
-        UNKNOWN
+    match (j, k) {
+        _ if j.is_barred() || k.is_barred() => UNDEF,
+        (other, POS_OVER) | (POS_OVER, other) => product_with_pos_over(other),
+        (other, NEG_OVER) | (NEG_OVER, other) => product_with_neg_over(other),
+        (other, UNKNOWN) | (UNKNOWN, other) => product_with_unknown(other),
+        _ => UNKNOWN,
     }
 }
 
@@ -214,14 +171,15 @@ fn sum_with_error(j: Integer, k: Integer) -> Integer
 fn product_with_pos_over(j: Integer) -> Integer
     ensures { result ≡ times_pos_over j }
 {
-    if is_negative(j) | j.is_fault(Fault::NegOver) {
-        NEG_OVER
-    } else if is_positive(j) | j.is_fault(Fault::PosOver) {
-        POS_OVER
-    } else if is_zero(j) {
-        Integer::judge(0)
-    } else {
-        UNKNOWN
+    match j {
+        Integer::Proper(n) => match n.get().cmp(&0) {
+            Ordering::Less => NEG_OVER,
+            Ordering::Equal => Integer::judge(0),
+            Ordering::Greater => POS_OVER,
+        },
+        NEG_OVER => NEG_OVER,
+        POS_OVER => POS_OVER,
+        _ => UNKNOWN,
     }
 }
 
@@ -236,30 +194,8 @@ fn product_with_neg_over(j: Integer) -> Integer
 fn product_with_unknown(j: Integer) -> Integer
     ensures { result ≡ times_unknown j }
 {
-    if is_zero(j) {
-        Integer::judge(0)
-    } else {
-        UNKNOWN
-    }
-}
-
-fn product_with_error(j: Integer, k: Integer) -> Integer
-    requires { (is_error j || is_error k) ≡ true }
-    ensures { result ≡ product j k }
-{
-    if j.is_barred() | k.is_barred() {
-        UNDEF
-    } else if k.is_fault(Fault::PosOver) {
-        product_with_pos_over(j)
-    } else if j.is_fault(Fault::PosOver) {
-        product_with_pos_over(k)
-    } else if k.is_fault(Fault::NegOver) {
-        product_with_neg_over(j)
-    } else if j.is_fault(Fault::NegOver) {
-        product_with_neg_over(k)
-    } else if k.is_fault(Fault::Unknown) {
-        product_with_unknown(j)
-    } else {
-        product_with_unknown(k)
+    match j {
+        Integer::Proper(n) if n.get() == 0 => Integer::judge(0),
+        _ => UNKNOWN,
     }
 }

@@ -17,11 +17,11 @@ fn one_line(rt: &HostRuntime, line: &str) -> anyhow::Result<()> {
     };
     let mut program = Program::new(heap);
     match check(&mut program, bytes.as_slice()) {
-        Ok(()) => {
-            let rows = program.row_count();
-            let functions = program.function_count();
-            println!(rt; "ok, rows {rows}, functions {functions}")?;
-        }
+        Ok(()) => println!(rt;
+            "ok, rows {}, functions {}",
+            program.row_count(),
+            program.function_count()
+        )?,
         Err(refusal) => println!(rt; "{refusal}")?,
     }
     Ok(())

@@ -53,14 +53,11 @@ fn integers<S: Operators>(rt: &HostRuntime, line: &str) -> anyhow::Result<()> {
 }
 
 fn truth(word: &str) -> Boolean {
-    if word == "true" {
-        Boolean::Proper(true)
-    } else if word == "false" {
-        Boolean::Proper(false)
-    } else if word == "miss_elt" {
-        Boolean::Error(BasicFault::MissElt)
-    } else {
-        Boolean::Error(BasicFault::Undef)
+    match word {
+        "true" => Boolean::Proper(true),
+        "false" => Boolean::Proper(false),
+        "miss_elt" => Boolean::Error(BasicFault::MissElt),
+        _ => Boolean::Error(BasicFault::Undef),
     }
 }
 
@@ -89,18 +86,16 @@ fn limits<S: Operators>(rt: &HostRuntime) -> anyhow::Result<()> {
 }
 
 fn one_line(rt: &HostRuntime, line: &str) -> anyhow::Result<()> {
-    match line.split_once(':') {
-        Some((kind, rest)) => {
-            print!(rt; "{line} ->")?;
-            if kind == "integers" {
-                integers::<Standard>(rt, rest)?;
-            } else {
-                booleans::<Standard>(rt, rest)?;
-            }
-            println!(rt; "")?;
-        }
-        None => println!(rt; "no kind: {line}")?,
+    let Some((kind, rest)) = line.split_once(':') else {
+        println!(rt; "no kind: {line}")?;
+        return Ok(());
+    };
+    print!(rt; "{line} ->")?;
+    match kind {
+        "integers" => integers::<Standard>(rt, rest)?,
+        _ => booleans::<Standard>(rt, rest)?,
     }
+    println!(rt; "")?;
     Ok(())
 }
 

@@ -11,6 +11,8 @@ pub enum Boolean {
 }
 
 impl Boolean {
+    // `and` and `or` keep a match each: with the operation as a closure, the contract of one function for both would be
+    // longer than the two.
     pub fn and(self, other: Boolean) -> Boolean
         ensures { result ≡ both self other }
     {

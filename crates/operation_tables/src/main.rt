@@ -5,28 +5,8 @@
 use arithmetic::{abs, divide, minus, modulo, negate, plus, times};
 use numbers::{BasicFault, Boolean, Fault, Integer};
 use ordering::{at_least, at_most, equal, greater, less, max, min, unequal};
-use std::io;
-
-#[derive(Clone, Copy)]
-enum Sum {
-    Plus,
-    Minus,
-    Times,
-    Divide,
-    Modulo,
-    Max,
-    Min,
-}
-
-#[derive(Clone, Copy)]
-enum Order {
-    Equal,
-    Unequal,
-    Less,
-    AtMost,
-    Greater,
-    AtLeast,
-}
+use std::alloc::{AllocError, Global};
+use std::fmt::Display;
 
 const FAULTS: [Fault; 6] = [
     Fault::Undef,
@@ -62,57 +42,30 @@ const TRUTHS: [Boolean; 4] = [
 ];
 
 // The proper operands, then the six error values.
-fn operand(i: usize) -> Integer {
-    if i < NUMBERS.len() {
-        Integer::judge(NUMBERS[i])
-    } else {
-        Integer::Error(FAULTS[(i - NUMBERS.len()) % 6])
+fn operands(heap: Global) -> Result<Vec<Integer>, AllocError> {
+    let mut operands = Vec::new(heap);
+    for number in NUMBERS {
+        operands.push(Integer::judge(number))?;
     }
+    for fault in FAULTS {
+        operands.push(Integer::Error(fault))?;
+    }
+    Ok(operands)
 }
 
-fn apply(op: Sum, j: Integer, k: Integer) -> Integer {
-    match op {
-        Sum::Plus => plus(j, k),
-        Sum::Minus => minus(j, k),
-        Sum::Times => times(j, k),
-        Sum::Divide => divide(j, k),
-        Sum::Modulo => modulo(j, k),
-        Sum::Max => max(j, k),
-        Sum::Min => min(j, k),
-    }
-}
-
-fn decide(op: Order, j: Integer, k: Integer) -> Boolean {
-    match op {
-        Order::Equal => equal(j, k),
-        Order::Unequal => unequal(j, k),
-        Order::Less => less(j, k),
-        Order::AtMost => at_most(j, k),
-        Order::Greater => greater(j, k),
-        Order::AtLeast => at_least(j, k),
-    }
-}
-
-fn sums(rt: &HostRuntime, name: &str, op: Sum) -> io::Result<()> {
-    for i in 0..20 {
-        let j = operand(i);
+// An operation at every pair of operands.
+fn table<T: Display + Drop, F: Fn(Integer, Integer) -> T>(
+    rt: &HostRuntime,
+    operands: &[Integer],
+    name: &str,
+    operation: F,
+) -> anyhow::Result<()>
+    requires { F.IsAlwaysCallable operation }
+{
+    for j in operands {
         print!(rt; "{name} {j}:")?;
-        for k in 0..20 {
-            let value = apply(op, j, operand(k));
-            print!(rt; " {value}")?;
-        }
-        println!(rt; "")?;
-    }
-    Ok(())
-}
-
-fn orders(rt: &HostRuntime, name: &str, op: Order) -> io::Result<()> {
-    for i in 0..20 {
-        let j = operand(i);
-        print!(rt; "{name} {j}:")?;
-        for k in 0..20 {
-            let value = decide(op, j, operand(k));
-            print!(rt; " {value}")?;
+        for k in operands {
+            print!(rt; " {}", operation(*j, *k))?;
         }
         println!(rt; "")?;
     }
@@ -120,9 +73,8 @@ fn orders(rt: &HostRuntime, name: &str, op: Order) -> io::Result<()> {
 }
 
 // Negation, magnitude and the seven tests of one integer.
-fn singles(rt: &HostRuntime) -> io::Result<()> {
-    for i in 0..20 {
-        let j = operand(i);
+fn singles(rt: &HostRuntime, operands: &[Integer]) -> anyhow::Result<()> {
+    for &j in operands {
         let negated = negate(j);
         let magnitude = abs(j);
         let error = j.is_error();
@@ -136,7 +88,7 @@ fn singles(rt: &HostRuntime) -> io::Result<()> {
     Ok(())
 }
 
-fn truths(rt: &HostRuntime) -> io::Result<()> {
+fn truths(rt: &HostRuntime) -> anyhow::Result<()> {
     for p in TRUTHS {
         let inverse = p.not();
         let error = p.is_error();
@@ -158,7 +110,7 @@ fn truths(rt: &HostRuntime) -> io::Result<()> {
 }
 
 // What lies outside the range is judged, and the number that 32 bits have besides is none.
-fn judged(rt: &HostRuntime) -> io::Result<()> {
+fn judged(rt: &HostRuntime) -> anyhow::Result<()> {
     for value in [
         -9223372036854775808,
         -2147483648,
@@ -172,33 +124,31 @@ fn judged(rt: &HostRuntime) -> io::Result<()> {
         println!(rt; "judge {value}: {integer}")?;
     }
     for code in 0..8u8 {
-        match Fault::from_code(code) {
-            Some(fault) => {
-                let word = fault.word();
-                let back = fault.code();
-                println!(rt; "code {code}: {word} {back}")?;
-            }
-            None => println!(rt; "code {code}: none")?,
+        match Fault::try_from(code) {
+            Ok(fault) => println!(rt; "code {code}: {fault} {}", u8::from(fault))?,
+            Err(_) => println!(rt; "code {code}: none")?,
         }
     }
     Ok(())
 }
 
-fn main(rt: HostRuntime) -> io::Result<()> {
-    sums(&rt, "+", Sum::Plus)?;
-    sums(&rt, "-", Sum::Minus)?;
-    sums(&rt, "*", Sum::Times)?;
-    sums(&rt, "/", Sum::Divide)?;
-    sums(&rt, "mod", Sum::Modulo)?;
-    sums(&rt, "max", Sum::Max)?;
-    sums(&rt, "min", Sum::Min)?;
-    orders(&rt, "=", Order::Equal)?;
-    orders(&rt, "~=", Order::Unequal)?;
-    orders(&rt, "<", Order::Less)?;
-    orders(&rt, "<=", Order::AtMost)?;
-    orders(&rt, ">", Order::Greater)?;
-    orders(&rt, ">=", Order::AtLeast)?;
-    singles(&rt)?;
+fn main(rt: HostRuntime) -> anyhow::Result<()> {
+    let operands = operands(rt.alloc())?;
+    table(&rt, &operands, "+", plus)?;
+    table(&rt, &operands, "-", minus)?;
+    table(&rt, &operands, "*", times)?;
+    table(&rt, &operands, "/", divide)?;
+    table(&rt, &operands, "mod", modulo)?;
+    // By its name alone a function of an inner module of another crate gets no proof here.
+    table(&rt, &operands, "max", |j, k| max(j, k))?;
+    table(&rt, &operands, "min", |j, k| min(j, k))?;
+    table(&rt, &operands, "=", |j, k| equal(j, k))?;
+    table(&rt, &operands, "~=", |j, k| unequal(j, k))?;
+    table(&rt, &operands, "<", |j, k| less(j, k))?;
+    table(&rt, &operands, "<=", |j, k| at_most(j, k))?;
+    table(&rt, &operands, ">", |j, k| greater(j, k))?;
+    table(&rt, &operands, ">=", |j, k| at_least(j, k))?;
+    singles(&rt, &operands)?;
     truths(&rt)?;
     judged(&rt)
 }

@@ -4,5 +4,5 @@
 mod comparison;
 mod ranking;
 
-pub use comparison::{Comparison, at_least, at_most, compare, equal, greater, less, unequal};
+pub use comparison::{at_least, at_most, compare, equal, greater, less, unequal};
 pub use ranking::{max, min, ranking_stands};

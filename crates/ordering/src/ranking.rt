@@ -1,18 +1,26 @@
 ghost use Rattle.std.specs.Prelude.{◌≡◌};
-ghost use Rattle.ordering.specs.Ranking.{max_rank, min_rank, maximum, minimum, MaxRules, MinRules};
+ghost use Rattle.ordering.specs.Ranking.{maximum, minimum, MaxRules, MinRules};
 
 use numbers::{Fault, Integer};
 
-// max(J, K)
+const UNDEF: Integer = Integer::Error(Fault::Undef);
+
+const UNKNOWN: Integer = Integer::Error(Fault::Unknown);
+
+const POS_OVER: Integer = Integer::Error(Fault::PosOver);
+
+const NEG_OVER: Integer = Integer::Error(Fault::NegOver);
+
+// max(J, K). It stays apart from min, since each arm is a rule of the one or of the other.
 pub fn max(j: Integer, k: Integer) -> Integer
     ensures { result ≡ maximum j k }
 {
-    if j.is_barred() | k.is_barred() {
-        Integer::Error(Fault::Undef)
-    } else if max_rank(j) < max_rank(k) {
-        k
-    } else {
-        j
+    match (j, k) {
+        _ if j.is_barred() || k.is_barred() => UNDEF,
+        (POS_OVER, _) | (_, POS_OVER) => POS_OVER,
+        (NEG_OVER, other) | (other, NEG_OVER) => other,
+        (Integer::Proper(m), Integer::Proper(n)) => if m.get() < n.get() { k } else { j },
+        _ => UNKNOWN,
     }
 }
 
@@ -20,12 +28,12 @@ pub fn max(j: Integer, k: Integer) -> Integer
 pub fn min(j: Integer, k: Integer) -> Integer
     ensures { result ≡ minimum j k }
 {
-    if j.is_barred() | k.is_barred() {
-        Integer::Error(Fault::Undef)
-    } else if min_rank(k) < min_rank(j) {
-        k
-    } else {
-        j
+    match (j, k) {
+        _ if j.is_barred() || k.is_barred() => UNDEF,
+        (NEG_OVER, _) | (_, NEG_OVER) => NEG_OVER,
+        (POS_OVER, other) | (other, POS_OVER) => other,
+        (Integer::Proper(m), Integer::Proper(n)) => if n.get() < m.get() { k } else { j },
+        _ => UNKNOWN,
     }
 }
 
@@ -33,33 +41,3 @@ pub fn min(j: Integer, k: Integer) -> Integer
 pub fn ranking_stands()
     ensures { MaxRules × MinRules }
 {}
-
-// Where an integer stands among what max chooses from.
-fn max_rank(j: Integer) -> i64
-    ensures { result ≡ max_rank j }
-{
-    match j {
-        Integer::Proper(n) => n.wide(),
-        Integer::Error(fault) => match fault {
-            Fault::NegOver => -2147483648,
-            Fault::Unknown => 2147483648,
-            Fault::PosOver => 2147483649,
-            Fault::Undef | Fault::MissElt | Fault::ZeroDivide => 2147483650,
-        },
-    }
-}
-
-// Where an integer stands among what min chooses from.
-fn min_rank(j: Integer) -> i64
-    ensures { result ≡ min_rank j }
-{
-    match j {
-        Integer::Proper(n) => n.wide(),
-        Integer::Error(fault) => match fault {
-            Fault::PosOver => 2147483648,
-            Fault::Unknown => -2147483648,
-            Fault::NegOver => -2147483649,
-            Fault::Undef | Fault::MissElt | Fault::ZeroDivide => -2147483650,
-        },
-    }
-}

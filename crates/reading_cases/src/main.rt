@@ -28,12 +28,10 @@ fn show(rt: &HostRuntime, text: &str) -> anyhow::Result<()> {
             return Ok(());
         }
     };
-    for column in columns.iter() {
-        let name = column.name.as_str();
-        print!(rt; "{name}:")?;
-        for reading in column.readings.iter() {
-            let value = *reading;
-            print!(rt; " {value}")?;
+    for column in &columns {
+        print!(rt; "{}:", column.name)?;
+        for reading in &column.readings {
+            print!(rt; " {reading}")?;
         }
         print!(rt; ";")?;
     }

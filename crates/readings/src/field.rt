@@ -1,6 +1,5 @@
 ghost use Rattle.std.specs.Prelude.{◌≡◌};
-ghost use Rattle.std.specs.Str.{bytes_eq};
-ghost use Rattle.readings.specs.Fields.{missed, error_word, word_fault, ReadsNumber, Reads};
+ghost use Rattle.readings.specs.Fields.{word_fault, ReadsNumber, Reads};
 
 use numbers::{Fault, Integer};
 
@@ -8,57 +7,27 @@ use numbers::{Fault, Integer};
 pub fn reading(text: &str) -> Option<Integer>
     ensures { Reads text.now result }
 {
-    match named_fault(text) {
-        Some(fault) => Some(Integer::Error(fault)),
-        None => number(text),
-    }
+    named_fault(text)
+        .map(Integer::Error)
+        .or_else(|| number(text))
 }
 
 fn named_fault(text: &str) -> Option<Fault>
     ensures { result ≡ word_fault text.now }
 {
-    if is_missed(text) {
-        Some(Fault::MissElt)
-    } else {
-        error_word(text)
+    match text {
+        "" | "miss" | "miss_elt" => Some(Fault::MissElt),
+        "undef" => Some(Fault::Undef),
+        "pos_over" => Some(Fault::PosOver),
+        "neg_over" => Some(Fault::NegOver),
+        "unknown" => Some(Fault::Unknown),
+        "zero_divide" => Some(Fault::ZeroDivide),
+        _ => None,
     }
-}
-
-fn is_missed(text: &str) -> bool
-    ensures { result ≡ missed text.now }
-{
-    is(text, "") | is(text, "miss") | is(text, "miss_elt")
-}
-
-fn error_word(text: &str) -> Option<Fault>
-    ensures { result ≡ error_word text.now }
-{
-    if is(text, "undef") {
-        Some(Fault::Undef)
-    } else if is(text, "pos_over") {
-        Some(Fault::PosOver)
-    } else if is(text, "neg_over") {
-        Some(Fault::NegOver)
-    } else if is(text, "unknown") {
-        Some(Fault::Unknown)
-    } else if is(text, "zero_divide") {
-        Some(Fault::ZeroDivide)
-    } else {
-        None
-    }
-}
-
-fn is(text: &str, word: &str) -> bool
-    ensures { result ≡ bytes_eq text.now word.now }
-{
-    text == word
 }
 
 fn number(text: &str) -> Option<Integer>
     ensures { ReadsNumber text.now result }
 {
-    match text.parse::<i64>() {
-        Ok(value) => Some(Integer::judge(value)),
-        Err(_) => None,
-    }
+    text.parse::<i64>().ok().map(Integer::judge)
 }

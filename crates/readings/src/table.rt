@@ -2,8 +2,8 @@ ghost use Rattle.std.specs.Prelude.{◌<◌, IfOk, vec_len};
 
 use crate::field::reading;
 use numbers::Integer;
-use std::alloc::{AllocError, AllocFailed, Global};
-use std::fmt;
+use std::alloc::{AllocError, Global};
+use thiserror::Error;
 
 // A column of a table: its name and its readings from top to bottom.
 #[derive(Drop)]
@@ -13,64 +13,28 @@ pub struct Column {
 }
 
 // What is wrong with a table, and where: lines and columns count from 1.
-#[derive(Clone, Copy, Drop)]
+#[derive(Clone, Copy, Debug, Drop, Error)]
 pub enum Misread {
+    #[error("the table is empty: expected a line of column names")]
     NoHeader,
+    #[error("line {line}, column {column}: expected a whole number, an empty field, miss, or the word of an error value")]
     NoReading {
         line: usize,
         column: usize,
     },
+    #[error("line {line}: expected {columns} fields, as the first line has, and there are more")]
     TooManyFields {
         line: usize,
         columns: usize,
     },
+    #[error("line {line}: expected {columns} fields, as the first line has, and there are {fields}")]
     TooFewFields {
         line: usize,
         fields: usize,
         columns: usize,
     },
-    Memory,
-}
-
-impl From<AllocError> for Misread {
-    fn from(_: AllocError) -> Misread {
-        Misread::Memory
-    }
-}
-
-impl<T: Drop> From<AllocFailed<T>> for Misread {
-    fn from(_: AllocFailed<T>) -> Misread {
-        Misread::Memory
-    }
-}
-
-impl fmt::Display for Misread {
-    fn fmt<W: fmt::Write>(&self, f: &mut fmt::Formatter<W>) -> fmt::Result {
-        match *self {
-            Misread::NoHeader => f.write_str("the table is empty: expected a line of column names"),
-            Misread::NoReading { line, column } => write!(
-                f,
-                "line {line}, column {column}: expected a whole number, an empty field, miss, or the word of an error value"
-            ),
-            Misread::TooManyFields { line, columns } => {
-                write!(
-                    f,
-                    "line {line}: expected {columns} fields, as the first line has, and there are more"
-                )
-            }
-            Misread::TooFewFields {
-                line,
-                fields,
-                columns,
-            } => {
-                write!(
-                    f,
-                    "line {line}: expected {columns} fields, as the first line has, and there are {fields}"
-                )
-            }
-            Misread::Memory => f.write_str("out of memory"),
-        }
-    }
+    #[error("out of memory")]
+    Memory(#[from(alloc)] AllocError),
 }
 
 // Reads a table: a line of column names, then a line of readings for each point.
@@ -103,31 +67,30 @@ fn read_header(heap: Global, line: &str, columns: &mut Vec<Column>) -> Result<()
 }
 
 // Adds a line's readings to the columns; none is left out and none is over.
-fn read_row(line: &str, number: usize, columns: &mut Vec<Column>) -> Result<(), Misread> {
-    let mut fields = 0;
-    for field in line.split(',') {
-        let count = columns.len();
-        if fields >= count {
-            return Err(Misread::TooManyFields {
-                line: number,
+fn read_row(text: &str, line: usize, columns: &mut Vec<Column>) -> Result<(), Misread> {
+    let mut fields = text.split(',');
+    let count = columns.len();
+    for (i, column) in columns.iter_mut().enumerate() {
+        let Some(field) = fields.next() else {
+            return Err(Misread::TooFewFields {
+                line,
+                fields: i,
                 columns: count,
             });
-        }
+        };
         let Some(value) = reading(field.trim_ascii()) else {
             return Err(Misread::NoReading {
-                line: number,
-                column: fields + 1,
+                line,
+                column: i.saturating_add(1),
             });
         };
-        columns[fields].readings.push(value)?;
-        fields += 1;
+        column.readings.push(value)?;
     }
-    if fields < columns.len() {
-        return Err(Misread::TooFewFields {
-            line: number,
-            fields,
-            columns: columns.len(),
-        });
+    match fields.next() {
+        Some(_) => Err(Misread::TooManyFields {
+            line,
+            columns: count,
+        }),
+        None => Ok(()),
     }
-    Ok(())
 }

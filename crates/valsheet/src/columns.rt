@@ -9,13 +9,9 @@ use summaries::{merge_in_three_orders, repeated_plus, repeated_plus_backwards};
 pub fn report<S: Operators>(rt: &HostRuntime, path: &str) -> anyhow::Result<()> {
     let heap = rt.alloc();
     let text = fs::read_to_string(rt, path)?;
-    let columns = match read_table(heap, text.as_str()) {
-        Ok(columns) => columns,
-        Err(misread) => return Err(anyhow!(format!(in heap; "{path}: {misread}")?)),
-    };
-    let count = columns.len();
-    println!(rt; "{path}: {count} columns, in tenths of a micrometre")?;
-    for column in columns.iter() {
+    let columns = read_table(heap, text.as_str()).map_err(|misread| anyhow!("{path}: {misread}"))?;
+    println!(rt; "{path}: {} columns, in tenths of a micrometre", columns.len())?;
+    for column in &columns {
         print_column::<S>(rt, column)?;
     }
     Ok(())
@@ -23,10 +19,8 @@ pub fn report<S: Operators>(rt: &HostRuntime, path: &str) -> anyhow::Result<()> 
 
 fn print_column<S: Operators>(rt: &HostRuntime, column: &Column) -> io::Result<()> {
     let readings = column.readings.as_slice();
-    let name = column.name.as_str();
-    let count = readings.len();
     println!(rt; "")?;
-    println!(rt; "{name}: {count} readings")?;
+    println!(rt; "{}: {} readings", column.name, readings.len())?;
     print_merge::<S::Plus>(rt, "plus", readings)?;
     print_merge::<S::Max>(rt, "max", readings)?;
     print_merge::<S::Min>(rt, "min", readings)?;
@@ -43,16 +37,14 @@ fn print_merge<O: Operator<Part = Integer, Closed = Integer>>(
 ) -> io::Result<()> {
     match merge_in_three_orders::<O>(readings) {
         Ok(orders) => {
-            let front = orders.front;
-            let back = orders.back;
-            let halves = orders.halves;
             let verdict = if orders.agree() {
                 "they agree"
             } else {
                 "THEY DIFFER"
             };
             println!(rt;
-                "  {name}: {front} in file order, {back} backwards, {halves} by halves: {verdict}"
+                "  {name}: {} in file order, {} backwards, {} by halves: {verdict}",
+                orders.front, orders.back, orders.halves
             )
         }
         Err(_) => println!(rt; "  {name}: more than 32768 readings, too many for one merge"),

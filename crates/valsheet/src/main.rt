@@ -4,7 +4,7 @@
 mod columns;
 mod value;
 
-use anyhow::anyhow;
+use anyhow::bail;
 use operators::Standard;
 use std::env;
 
@@ -14,18 +14,18 @@ fn run(rt: &HostRuntime) -> anyhow::Result<()> {
     let mut words = env::args(rt)?;
     let _program = words.next();
     let (Some(command), Some(first)) = (words.next(), words.next()) else {
-        return Err(anyhow!(USAGE));
+        bail!(USAGE);
     };
-    if command.as_str() == "columns" {
-        return columns::report::<Standard>(rt, first.as_str());
+    match command.as_str() {
+        "columns" => columns::report::<Standard>(rt, first.as_str()),
+        "value" => {
+            let (Some(number), Some(bytes)) = (words.next(), words.next()) else {
+                bail!(USAGE);
+            };
+            value::show(rt, first.as_str(), number.as_str(), bytes.as_str())
+        }
+        _ => bail!(USAGE),
     }
-    let (Some(number), Some(bytes)) = (words.next(), words.next()) else {
-        return Err(anyhow!(USAGE));
-    };
-    if command.as_str() != "value" {
-        return Err(anyhow!(USAGE));
-    }
-    value::show(rt, first.as_str(), number.as_str(), bytes.as_str())
 }
 
 fn main(rt: HostRuntime) -> anyhow::Result<()> {

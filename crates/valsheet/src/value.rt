@@ -6,28 +6,14 @@ use values::Refusal;
 // Reads bytes as a value of a type, and prints it as VAL writes it.
 pub fn show(rt: &HostRuntime, rows: &str, number: &str, bytes: &str) -> anyhow::Result<()> {
     let heap = rt.alloc();
-    let types = match parse_types(heap, rows) {
-        Ok(types) => types,
-        Err(problem) => return Err(anyhow!(format!(in heap; "{rows}: {problem}")?)),
-    };
-    let bytes = match parse_bytes(heap, bytes) {
-        Ok(bytes) => bytes,
-        Err(problem) => return Err(anyhow!(format!(in heap; "the bytes: {problem}")?)),
-    };
+    let types = parse_types(heap, rows).map_err(|problem| anyhow!("{rows}: {problem}"))?;
+    let bytes = parse_bytes(heap, bytes).map_err(|problem| anyhow!("the bytes: {problem}"))?;
     let number = number.parse::<u8>()?;
-    match read_whole(&types, bytes.as_slice(), number) {
-        Ok(length) => {
-            let Ok(text) = show_value(heap, bytes.as_slice()) else {
-                return Err(anyhow!("out of memory"));
-            };
-            println!(rt; "{text} ({length} bytes of type {number})")?;
-            Ok(())
-        }
-        Err(refusal) => {
-            let why = explain(refusal);
-            Err(anyhow!(format!(in heap; "{refusal}: {why}")?))
-        }
-    }
+    let length = read_whole(&types, bytes.as_slice(), number)
+        .map_err(|refusal| anyhow!("{refusal}: {}", explain(refusal)))?;
+    let text = show_value(heap, bytes.as_slice()).map_err(|problem| anyhow!("{problem}"))?;
+    println!(rt; "{text} ({length} bytes of type {number})")?;
+    Ok(())
 }
 
 // What a refusal of value bytes means.

@@ -10,9 +10,7 @@ use values::Types;
 fn judge(rt: &HostRuntime, types: &Types, number: u8, bytes: &[u8]) -> anyhow::Result<()> {
     match read_whole(types, bytes, number) {
         Ok(length) => {
-            let Ok(text) = show_value(rt.alloc(), bytes) else {
-                return Err(anyhow!("out of memory"));
-            };
+            let text = show_value(rt.alloc(), bytes).map_err(|problem| anyhow!("{problem}"))?;
             let skipped = skip_value(bytes, 0).unwrap_or(0);
             println!(rt; "{text} ({length} bytes, {skipped} skipped)")?;
         }
@@ -31,11 +29,7 @@ fn one_line(rt: &HostRuntime, line: &str) -> anyhow::Result<()> {
     let number = number.parse::<u8>()?;
     match (parse_types(heap, rows), parse_bytes(heap, bytes)) {
         (Ok(types), Ok(bytes)) => judge(rt, &types, number, bytes.as_slice()),
-        (Err(problem), _) => {
-            println!(rt; "{problem}")?;
-            Ok(())
-        }
-        (_, Err(problem)) => {
+        (Err(problem), _) | (_, Err(problem)) => {
             println!(rt; "{problem}")?;
             Ok(())
         }

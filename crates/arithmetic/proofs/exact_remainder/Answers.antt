@@ -9,8 +9,8 @@ pub returns : goal.returns
 returns c =
     let m = c.args.m in
     let n = c.args.n in
-    let fits_m : SFits w64 c.wide.result = search rules in
-    let fits_n : SFits w64 c.wide-2.result = search rules in
-    let same : rem_z c.wide.result c.wide-2.result ≡ rem_z m.value n.value = ap₂ rem_z c.wide.ensures c.wide-2.ensures in
-    let fits : SFits w64 (rem_z c.wide.result c.wide-2.result) = subst (SFits w64) (sym same) (remainder_fits m n) in
+    let fits_m : SFits w64 c.from.result = search rules in
+    let fits_n : SFits w64 c.from-2.result = search rules in
+    let same : rem_z c.from.result c.from-2.result ≡ rem_z m.value n.value = ap₂ rem_z c.from.ensures c.from-2.ensures in
+    let fits : SFits w64 (rem_z c.from.result c.from-2.result) = subst (SFits w64) (sym same) (remainder_fits m n) in
     simp to_z-of_z at c.judge.ensures ∙ ap judged (same ∙ sym (left_over m.value n.value))

@@ -47,25 +47,13 @@ impl Program {
     pub fn parameters(&self, function: u8) -> Option<Members>
         ensures { result ≡ parameters_of self.now.functions.items function }
     {
-        let at = function as usize;
-        if at < self.functions.len() {
-            let found = self.functions[at];
-            Some(found.parameters)
-        } else {
-            None
-        }
+        Some(self.functions.get(function as usize)?.parameters)
     }
 
     // The types of a function's results, if there is such a function.
     pub fn results(&self, function: u8) -> Option<Members>
         ensures { result ≡ results_of self.now.functions.items function }
     {
-        let at = function as usize;
-        if at < self.functions.len() {
-            let found = self.functions[at];
-            Some(found.results)
-        } else {
-            None
-        }
+        Some(self.functions.get(function as usize)?.results)
     }
 }
