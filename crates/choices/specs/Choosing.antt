@@ -2,7 +2,7 @@
 use Rattle.std.specs.Prelude.{◌≡◌, true, false, cond, ◌||◌, ◌⊎◌, List, [], ◌∷◌, ℤ, ◌≤ℤ◌, int_lt, refl}
 use Rattle.std.proofs.Common.{sym, ap, subst, ◌∙◌, inl, inr, ⊎_elim, arith}
 use Rattle.std.specs.Int.{int_max}
-use Rattle.std.specs.List.{ContainsAt, AllByRecursion}
+use Rattle.std.specs.List.{ContainsAt, AllByRecursion, list_any}
 use Rattle.std.proofs.lemmas.Int.{clamps, ints}
 use Rattle.std.proofs.lemmas.Bool.{cond-true, cond-false, cond_both, or_cases, or_parts, or_from, or_left, or_right, false≢true}
 use Rattle.std.proofs.ByRecursion.{has_append_right, All-weaker}
@@ -14,7 +14,6 @@ use Rattle.merging.specs.Operators.{meaning}
 use Rattle.merging.specs.Operations.{OperationLaws, combining}
 use Rattle.merging.specs.Free.{from_last, tallied-from_last}
 use Rattle.merging.specs.Combining.{combining_free}
-use Rattle.merging.specs.Parts.{any}
 use Rattle.choices.specs.Extremes.{Chosen}
 
 -- The one of two integers that has the higher rank.
@@ -101,14 +100,14 @@ module _ {rank : Integer → ℤ} {start : Integer} {top : ℤ} {of_rank : ℤ �
   abbrev best : List Integer → Integer
   best ps = from_last (combining start choose) ps
 
-  best_undef : (ps : List Integer) → any barred ps ≡ true → best ps ≡ Error Undef
+  best_undef : (ps : List Integer) → list_any barred ps ≡ true → best ps ≡ Error Undef
   best_undef [] e = absurd (false≢true e)
   best_undef (p ∷ ps) e =
       let q = choose start p in
       ⊎_elim
       (λ h. bars q (best ps) (or_left (barred q) (barred (best ps)) (ap barred (bars start p (or_right (barred start) (barred p) h)))))
       (λ h. bars q (best ps) (or_right (barred q) (barred (best ps)) (ap barred (best_undef ps h))))
-      (or_cases (barred p) (any barred ps) e)
+      (or_cases (barred p) (list_any barred ps) e)
 
   -- c outranks the parts, and is the start or one of them
   record Best (ps : List Integer) (c : Integer) : Type 0 where
@@ -129,10 +128,10 @@ module _ {rank : Integer → ℤ} {start : Integer} {top : ℤ} {of_rank : ℤ �
             either;
       }
 
-  best_is : (ps : List Integer) → any barred ps ≡ false → Best ps (best ps)
+  best_is : (ps : List Integer) → list_any barred ps ≡ false → Best ps (best ps)
   best_is [] e = record { open_too = r.start_open; leads = tt; among = inl refl }
   best_is (p ∷ ps) e =
-      let clear = or_parts (barred p) (any barred ps) e in
+      let clear = or_parts (barred p) (list_any barred ps) e in
       subst (λ q. Best (p ∷ ps) (choose q (best ps))) (sym (yields p clear.0)) (best_first p ps (best ps) clear.0 (best_is ps clear.1))
 
   pub chosen : (ps : List Integer) → Chosen (λ c p. rank p ≤ℤ rank c) start ps (meaning (combining start choose) ps)

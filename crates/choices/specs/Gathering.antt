@@ -1,5 +1,6 @@
 -- And and or: an operation on truth values that errors make undef, its laws, and what it means for a list.
 use Rattle.std.specs.Prelude.{◌≡◌, Bool, true, false, ◌&&◌, ◌||◌, cond, List, [], ◌∷◌, refl}
+use Rattle.std.specs.List.{list_any, list_all}
 use Rattle.std.proofs.Common.{sym, ap, ap₂, subst, ◌∙◌}
 use Rattle.std.proofs.Math.Path.{fun_ext}
 use Rattle.std.proofs.Math.Bool.{and_assoc, and_comm, or_assoc, or_comm}
@@ -11,7 +12,6 @@ use Rattle.merging.specs.Operators.{meaning}
 use Rattle.merging.specs.Operations.{OperationLaws, combining}
 use Rattle.merging.specs.Free.{from_last, tallied-from_last}
 use Rattle.merging.specs.Combining.{combining_free}
-use Rattle.merging.specs.Parts.{any, every}
 use Rattle.choices.specs.Truths.{is_true, unless_error, AndAll, OrSome}
 
 -- An operation on truth values, undef where either is an error.
@@ -55,7 +55,7 @@ module _ {op : Bool → Bool → Bool} {start : Bool} (g : Gathers op start) whe
   gathering_means [] = refl
   gathering_means (Proper p ∷ ps) =
       ap₂ (λ q t. lifted op (Proper q) t) (g.neutral p) (gathering_means ps)
-      ∙ lifted_first p (gathered op start ps) (any is_error ps)
+      ∙ lifted_first p (gathered op start ps) (list_any is_error ps)
   gathering_means (Error f ∷ ps) = refl
 
   gathering_stands : (ps : List Boolean) → meaning (combining (Proper start) (lifted op)) ps ≡ unless_error ps (gathered op start ps)
@@ -83,11 +83,11 @@ lifted_both = fun_ext (λ a. fun_ext (is_both a))
 lifted_either : lifted ◌||◌ ≡ either
 lifted_either = fun_ext (λ a. fun_ext (is_either a))
 
-every_gathered : (ps : List Boolean) → gathered ◌&&◌ true ps ≡ every is_true ps
+every_gathered : (ps : List Boolean) → gathered ◌&&◌ true ps ≡ list_all is_true ps
 every_gathered [] = refl
 every_gathered (p ∷ ps) = ap (λ b. is_true p && b) (every_gathered ps)
 
-any_gathered : (ps : List Boolean) → gathered ◌||◌ false ps ≡ any is_true ps
+any_gathered : (ps : List Boolean) → gathered ◌||◌ false ps ≡ list_any is_true ps
 any_gathered [] = refl
 any_gathered (p ∷ ps) = ap (λ b. is_true p || b) (any_gathered ps)
 

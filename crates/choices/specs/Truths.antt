@@ -1,12 +1,12 @@
 -- The operators and and or, and what they mean for a list of booleans.
 use Rattle.std.specs.Prelude.{◌≡◌, Bool, true, false, cond, List}
+use Rattle.std.specs.List.{list_any, list_all}
 use Rattle.numbers.specs.declared.fault.BasicFault.TheVariants.{Undef}
 use Rattle.numbers.specs.declared.boolean.Boolean.{Boolean}
 use Rattle.numbers.specs.declared.boolean.Boolean.TheVariants.{Proper, Error}
 use Rattle.numbers.specs.Booleans.{both, either, is_error}
 use Rattle.merging.specs.Operators.{Definition, meaning}
 use Rattle.merging.specs.Operations.{combining}
-use Rattle.merging.specs.Parts.{any, every}
 
 -- And of no parts is true.
 abbrev pub all_of : Definition Boolean Boolean Boolean
@@ -23,12 +23,12 @@ is_true (Error f) = false
 
 -- Undef where an error occurs, else a truth value.
 abbrev pub unless_error : List Boolean → Bool → Boolean
-unless_error ps t = cond (any is_error ps) (Error Undef) (Proper t)
+unless_error ps t = cond (list_any is_error ps) (Error Undef) (Proper t)
 
 -- And is true exactly where every part is true.
 abbrev pub AndAll : Type 0
-AndAll = (ps : List Boolean) → meaning all_of ps ≡ unless_error ps (every is_true ps)
+AndAll = (ps : List Boolean) → meaning all_of ps ≡ unless_error ps (list_all is_true ps)
 
 -- Or is true exactly where some part is true.
 abbrev pub OrSome : Type 0
-OrSome = (ps : List Boolean) → meaning some_of ps ≡ unless_error ps (any is_true ps)
+OrSome = (ps : List Boolean) → meaning some_of ps ≡ unless_error ps (list_any is_true ps)

@@ -6,4 +6,3 @@ pub mod Combining
 pub mod Trees
 pub mod Merged
 pub mod Bundles
-pub mod Parts

@@ -1,4 +1,5 @@
-ghost use Rattle.std.specs.Prelude.{◌≡◌, ◌<◌, ◌≤◌, length, Some, codes, OnOk, OnErr};
+ghost use Rattle.std.specs.Prelude.{◌≡◌, ◌<◌, ◌≤◌, ◌++◌, length, Some, codes, OnOk, OnErr};
+ghost use Rattle.std.specs.Fmt.{decimal};
 ghost use Rattle.merging.specs.Operators.{most, tallied};
 ghost use Rattle.merging.specs.Merged.{Grouped, merged};
 ghost use Rattle.merging.specs.Trees.{EveryGrouping};
@@ -15,10 +16,10 @@ pub const MOST: usize = 32768;
 pub struct TooManyParts;
 
 impl fmt::Display for TooManyParts {
-    ghost output = { λ _. Some (codes "more than 32768 parts") };
+    ghost output = { λ _. Some (codes "more than " ++ decimal most ++ codes " parts") };
 
     fn fmt<W: fmt::Write>(&self, f: &mut fmt::Formatter<W>) -> fmt::Result {
-        f.write_str("more than 32768 parts")
+        write!(f, "more than {MOST} parts")
     }
 }
 
@@ -63,6 +64,7 @@ where
     Ok(O::close(tally_halves::<O>(parts)))
 }
 
+// Refuses more parts than a merge takes.
 fn refuse_many<P>(parts: &[P]) -> Result<(), TooManyParts>
     ensures few { OnOk result (length parts.now ≤ most) }
     ensures many { OnErr result (most < length parts.now) }

@@ -1,5 +1,6 @@
 -- Two sums mean what plus means.
 use Rattle.std.proofs.Common.{◌≡◌, ◌||◌, List, [], ◌∷◌, ℤ, pos, ◌+ℤ◌, ◌≤ℤ◌, sym, refl, ap, ◌∙◌, ap₂, arith}
+use Rattle.std.specs.List.{list_any}
 use mathlib.Core.Path.{fun_ext}
 use lib.Signed.{lt_z}
 use borrow.Author.Differences.{ints}
@@ -9,7 +10,6 @@ use Rattle.numbers.specs.declared.integer.Integer.{Integer}
 use Rattle.numbers.specs.declared.integer.Integer.TheVariants.{Proper, Error}
 use Rattle.arithmetic.specs.Arithmetic.{negative, positive}
 use Rattle.merging.specs.Merged.{merged, unless_many}
-use Rattle.merging.specs.Parts.{any}
 use Rattle.merging.specs.Free.{from_last, tallied-from_last}
 use Rattle.sums.specs.Notes.{settled}
 use Rattle.sums.specs.NotesLaws.{notes_in}
@@ -66,13 +66,13 @@ high_part : (p : Integer) → lt_z (pos 0) (int_max (amount p) (pos 0)) ≡ posi
 high_part (Proper n) = high_value n.value
 high_part (Error f) = refl
 
-below_told : (ps : List Integer) → lt_z (below ps) (pos 0) ≡ any negative ps
+below_told : (ps : List Integer) → lt_z (below ps) (pos 0) ≡ list_any negative ps
 below_told [] = refl
 below_told (p ∷ ps) =
     low_sum (int_min (amount p) (pos 0)) (below ps) (omega (arith, ints, clamps)) (below_low ps)
     ∙ ap₂ ◌||◌ (low_part p) (below_told ps)
 
-above_told : (ps : List Integer) → lt_z (pos 0) (above ps) ≡ any positive ps
+above_told : (ps : List Integer) → lt_z (pos 0) (above ps) ≡ list_any positive ps
 above_told [] = refl
 above_told (p ∷ ps) =
     high_sum (int_max (amount p) (pos 0)) (above ps) (omega (arith, ints, clamps)) (above_high ps)
@@ -82,7 +82,7 @@ pub same_as_plus : SameAsPlus
 same_as_plus ps =
     ap closed (tallied-from_last two_sums_free ps ∙ noted ps)
     ∙ ap₂ (settled (notes_in ps) (above ps +ℤ below ps)) (below_told ps) (above_told ps)
-    ∙ ap (λ z. settled (notes_in ps) z (any negative ps) (any positive ps)) (sides_total ps)
+    ∙ ap (λ z. settled (notes_in ps) z (list_any negative ps) (list_any positive ps)) (sides_total ps)
     ∙ sym (plus_sums ps)
 
 pub merged_same : (ps : List Integer) → merged two_sums ps ≡ merged plus ps

@@ -1,5 +1,6 @@
 -- What times means for a list, by the product of its factors.
 use Rattle.std.proofs.Common.{◌≡◌, ℕ, zero, suc, ◌*◌, ◌<◌, Bool, true, false, cond, not, ◌||◌, List, [], ◌∷◌, ℤ, pos, negsuc, ◌*ℤ◌, sym, refl, ap, ◌∙◌, subst, ap₂, zero-lt-suc, mul-pos, mul-zero, zero-mul, arith}
+use Rattle.std.specs.List.{list_any}
 use lib.Signed.{lt_z}
 use Rattle.numbers.specs.declared.fault.Fault.TheVariants.{Undef, MissElt, PosOver, NegOver, Unknown, ZeroDivide}
 use Rattle.numbers.specs.declared.integer.Integer.{Integer}
@@ -10,7 +11,6 @@ use Rattle.merging.specs.Operators.{meaning}
 use Rattle.merging.specs.Operations.{combining}
 use Rattle.merging.specs.Free.{from_last, tallied-from_last}
 use Rattle.merging.specs.Combining.{combining_free}
-use Rattle.merging.specs.Parts.{any}
 use Rattle.products.specs.Products.{weight, exact_product, TimesMultiplies}
 use Rattle.products.specs.Factors.{Factor, number, unknown, undefined, of_number, signed, factor, value, minus, mul, multiplied}
 use Rattle.products.specs.Multiplying.{settle, times_comm, times_one}
@@ -44,7 +44,7 @@ record Found : Type 0 where
   exact : ℤ
 
 abbrev found : List Integer → Found
-found ps = record { bar = any barred ps; nil = any is_zero ps; unk = any (is_fault Unknown) ps; exact = exact_product ps }
+found ps = record { bar = list_any barred ps; nil = list_any is_zero ps; unk = list_any (is_fault Unknown) ps; exact = exact_product ps }
 
 abbrev first_found : Integer → Found → Found
 first_found p f = record { bar = barred p || f.bar; nil = is_zero p || f.nil; unk = is_fault Unknown p || f.unk; exact = weight p *ℤ f.exact }

@@ -1,12 +1,12 @@
 -- What times means for a list of integers.
 use Rattle.std.specs.Prelude.{◌≡◌, cond, List, [], ◌∷◌, ℤ, pos, negsuc, ◌*ℤ◌}
+use Rattle.std.specs.List.{list_any}
 use Rattle.numbers.specs.declared.fault.Fault.TheVariants.{Undef, MissElt, PosOver, NegOver, Unknown, ZeroDivide}
 use Rattle.numbers.specs.declared.integer.Integer.{Integer}
 use Rattle.numbers.specs.declared.integer.Integer.TheVariants.{Proper, Error}
 use Rattle.numbers.specs.Integers.{judged, is_fault, barred}
 use Rattle.arithmetic.specs.Arithmetic.{is_zero}
 use Rattle.merging.specs.Operators.{meaning}
-use Rattle.merging.specs.Parts.{any}
 use Rattle.products.specs.Times.{times}
 
 -- What a part multiplies by: a proper number itself, and an over 2147483648 with its sign. Where any other part occurs, no
@@ -29,9 +29,9 @@ exact_product (p ∷ ps) = weight p *ℤ exact_product ps
 -- exact product judged against M.
 abbrev pub product_of : List Integer → Integer
 product_of ps =
-    cond (any barred ps) (Error Undef)
-    (cond (any is_zero ps) (judged (pos 0))
-    (cond (any (is_fault Unknown) ps) (Error Unknown)
+    cond (list_any barred ps) (Error Undef)
+    (cond (list_any is_zero ps) (judged (pos 0))
+    (cond (list_any (is_fault Unknown) ps) (Error Unknown)
     (judged (exact_product ps))))
 
 -- The meaning of every list of parts.

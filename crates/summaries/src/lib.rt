@@ -56,7 +56,7 @@ pub fn repeated_plus_backwards(readings: &[Integer]) -> Integer
         .rfold(Integer::judge(0), |later, reading| plus(later, *reading))
 }
 
-// Whether two integers are one and the same; unlike VAL's =, this always answers.
+// Whether two integers are one and the same; unlike VAL's =, this always answers. It is ==, with a clause that says so.
 pub fn same(j: Integer, k: Integer) -> bool
     ensures { IsTrue result ↔ (j ≡ k) }
 {

@@ -1,5 +1,6 @@
 -- The laws of plus, and the exactness of its sums at 64 bits.
 use Rattle.std.specs.Prelude.{◌≡◌, ℕ, ◌+◌, ◌*◌, ◌≤◌, List, [], ◌∷◌, ℤ, pos, ◌+ℤ◌, neg_ℤ, ◌≤ℤ◌, FitsSigned, refl}
+use Rattle.std.specs.List.{list_any}
 use Rattle.std.proofs.Common.{ap, ◌∙◌, arith}
 use Rattle.std.proofs.lemmas.Int.{ints}
 use Rattle.std.proofs.Math.Bool.{or_assoc, or_comm}
@@ -11,7 +12,6 @@ use Rattle.arithmetic.specs.Arithmetic.{negative, positive}
 use Rattle.merging.specs.Operators.{Sized, Laws, most}
 use Rattle.merging.specs.Sizing.{Kept, every_sized}
 use Rattle.merging.specs.Free.{FreeLaws, free_laws, from_last, tallied-from_last}
-use Rattle.merging.specs.Parts.{any}
 use Rattle.sums.specs.declared.Sum.{Sum}
 use Rattle.sums.specs.Plus.{no_parts, one_part, together, plus}
 use Rattle.sums.specs.Sums.{total, PlusSums}
@@ -70,7 +70,7 @@ pub plus_laws : Laws plus
 plus_laws = free_laws plus_free
 
 -- What is noted of a list: its exact sum, and the sorts of part that occur.
-noted : (ps : List Integer) → from_last plus ps ≡ record { sum = total ps; negative = any negative ps; positive = any positive ps; notes = notes_in ps }
+noted : (ps : List Integer) → from_last plus ps ≡ record { sum = total ps; negative = list_any negative ps; positive = list_any positive ps; notes = notes_in ps }
 noted [] = refl
 noted (p ∷ ps) = ap (together (one_part p)) (noted ps)
 
