@@ -7,15 +7,16 @@ use Rattle.numbers.specs.declared.integer.Integer.TheVariants.{Error}
 use Rattle.numbers.specs.Integers.{barred}
 use Rattle.ordering.specs.Ranking.{max_rank, min_rank, maximum, minimum}
 use Rattle.merging.specs.Operators.{Definition, meaning}
+use Rattle.merging.specs.Operations.{combining}
 use Rattle.merging.specs.Parts.{any}
 
 -- Max of no parts is neg_over, which every other part outranks.
 abbrev pub greatest_of : Definition Integer Integer Integer
-greatest_of = record { start = Error NegOver; tally = maximum (Error NegOver); join = maximum; close = λ t. t }
+greatest_of = combining (Error NegOver) maximum
 
 -- Min of no parts is pos_over, which every other part outranks downward.
 abbrev pub least_of : Definition Integer Integer Integer
-least_of = record { start = Error PosOver; tally = minimum (Error PosOver); join = minimum; close = λ t. t }
+least_of = combining (Error PosOver) minimum
 
 -- r is what an operator that chooses among parts gives for ps: undef where undef, miss_elt or zero_divide occurs; else r
 -- leads every part, and is the start or one of the parts.

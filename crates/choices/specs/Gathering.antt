@@ -1,24 +1,24 @@
 -- And and or: an operation on truth values that errors make undef, its laws, and what it means for a list.
-use Rattle.std.specs.Prelude.{◌≡◌, Bool, true, false, ◌&&◌, ◌||◌, List, [], ◌∷◌, fold, refl}
-use Rattle.std.proofs.Common.{sym, ap, subst, ◌∙◌}
+use Rattle.std.specs.Prelude.{◌≡◌, Bool, true, false, ◌&&◌, ◌||◌, cond, List, [], ◌∷◌, refl}
+use Rattle.std.proofs.Common.{sym, ap, ap₂, subst, ◌∙◌}
 use Rattle.std.proofs.Math.Path.{fun_ext}
+use Rattle.std.proofs.Math.Bool.{and_assoc, and_comm, or_assoc, or_comm}
 use Rattle.numbers.specs.declared.fault.BasicFault.TheVariants.{Undef}
 use Rattle.numbers.specs.declared.boolean.Boolean.{Boolean}
 use Rattle.numbers.specs.declared.boolean.Boolean.TheVariants.{Proper, Error}
-use Rattle.numbers.specs.Booleans.{both, either}
-use Rattle.merging.specs.Operators.{Definition, Laws, meaning}
-use Rattle.merging.proofs.Sizing.{Kept, laws_by}
+use Rattle.numbers.specs.Booleans.{both, either, is_error}
+use Rattle.merging.specs.Operators.{meaning}
+use Rattle.merging.specs.Operations.{OperationLaws, combining}
+use Rattle.merging.specs.Free.{from_last, tallied-from_last}
+use Rattle.merging.specs.Combining.{combining_free}
 use Rattle.merging.specs.Parts.{any, every}
-use Rattle.choices.specs.Truths.{all_of, some_of, is_true, unless_error, AndAll, OrSome}
+use Rattle.choices.specs.Truths.{is_true, unless_error, AndAll, OrSome}
 
 -- An operation on truth values, undef where either is an error.
 abbrev lifted : (Bool → Bool → Bool) → Boolean → Boolean → Boolean
 lifted op (Proper a) (Proper b) = Proper (op a b)
 lifted op (Proper a) (Error f) = Error Undef
 lifted op (Error f) b = Error Undef
-
-abbrev gathering : (Boolean → Boolean → Boolean) → Bool → Definition Boolean Boolean Boolean
-gathering join start = record { start = Proper start; tally = join (Proper start); join = join; close = λ t. t }
 
 -- The operation on every part of a list.
 abbrev gathered : (Bool → Bool → Bool) → Bool → List Boolean → Bool
@@ -30,17 +30,7 @@ record Gathers (op : Bool → Bool → Bool) (start : Bool) : Type 0 where
   comm : (a b : Bool) → op a b ≡ op b a
   neutral : (a : Bool) → op start a ≡ a
 
--- No tally is miss_elt.
-abbrev Tally : Boolean → Type 0
-Tally (Proper a) = Unit {0}
-Tally (Error f) = f ≡ Undef
-
 module _ {op : Bool → Bool → Bool} {start : Bool} (g : Gathers op start) where
-  lifted_tally : (a b : Boolean) → Tally (lifted op a b)
-  lifted_tally (Proper a) (Proper b) = tt
-  lifted_tally (Proper a) (Error f) = refl
-  lifted_tally (Error f) b = refl
-
   lifted_assoc : (a b c : Boolean) → lifted op (lifted op a b) c ≡ lifted op a (lifted op b c)
   lifted_assoc (Proper a) (Proper b) (Proper c) = ap Proper (g.assoc a b c)
   lifted_assoc (Proper a) (Proper b) (Error f) = refl
@@ -53,57 +43,23 @@ module _ {op : Bool → Bool → Bool} {start : Bool} (g : Gathers op start) whe
   lifted_comm (Error f) (Proper b) = refl
   lifted_comm (Error f) (Error h) = refl
 
-  lifted_neutral : (a : Boolean) → Tally a → lifted op (Proper start) a ≡ a
-  lifted_neutral (Proper a) h = ap Proper (g.neutral a)
-  lifted_neutral (Error f) h = ap Error (sym h)
+  gathering_laws : OperationLaws (Proper start) (lifted op)
+  gathering_laws = record { assoc = lifted_assoc; comm = lifted_comm; neutral_kept = ap Proper (g.neutral start) }
 
-  kept : Kept (gathering (lifted op) start) (λ n t. Tally t)
-  kept = record { start_is = tt; tally_is = lifted_tally (Proper start); join_is = λ m n a b u v h. lifted_tally a b }
+  -- One truth value more, before a list's or the error of the list.
+  lifted_first : (p t error : Bool) → lifted op (Proper p) (cond error (Error Undef) (Proper t)) ≡ cond error (Error Undef) (Proper (op p t))
+  lifted_first p t true = refl
+  lifted_first p t false = refl
 
-  gathering_laws : Laws (gathering (lifted op) start)
-  gathering_laws = laws_by kept (record {
-    assoc = λ k m n a b c u v w h. lifted_assoc a b c;
-    comm = λ m n a b u v h. lifted_comm a b;
-    neutral = λ n a u h. lifted_neutral a u;
-  })
+  gathering_means : (ps : List Boolean) → from_last (combining (Proper start) (lifted op)) ps ≡ unless_error ps (gathered op start ps)
+  gathering_means [] = refl
+  gathering_means (Proper p ∷ ps) =
+      ap₂ (λ q t. lifted op (Proper q) t) (g.neutral p) (gathering_means ps)
+      ∙ lifted_first p (gathered op start ps) (any is_error ps)
+  gathering_means (Error f ∷ ps) = refl
 
-  abbrev onto : Boolean → List Boolean → Boolean
-  onto t ps = fold (λ t p. lifted op t (lifted op (Proper start) p)) t ps
-
-  onto_undef : (ps : List Boolean) → onto (Error Undef) ps ≡ Error Undef
-  onto_undef [] = refl
-  onto_undef (p ∷ ps) = onto_undef ps
-
-  onto_truth : (ps : List Boolean) (t : Bool) → onto (Proper t) ps ≡ unless_error ps (op t (gathered op start ps))
-  onto_truth [] t = ap Proper (sym (g.comm t start ∙ g.neutral t))
-  onto_truth (Proper p ∷ ps) t =
-      ap (λ q. onto (Proper (op t q)) ps) (g.neutral p)
-      ∙ onto_truth ps (op t p)
-      ∙ ap (unless_error ps) (g.assoc t p (gathered op start ps))
-  onto_truth (Error f ∷ ps) t = onto_undef ps
-
-  gathering_means : (ps : List Boolean) → meaning (gathering (lifted op) start) ps ≡ unless_error ps (gathered op start ps)
-  gathering_means ps = onto_truth ps start ∙ ap (unless_error ps) (g.neutral (gathered op start ps))
-
-and_assoc : (a b c : Bool) → ((a && b) && c) ≡ (a && (b && c))
-and_assoc true b c = refl
-and_assoc false b c = refl
-
-and_comm : (a b : Bool) → (a && b) ≡ (b && a)
-and_comm true true = refl
-and_comm true false = refl
-and_comm false true = refl
-and_comm false false = refl
-
-or_assoc : (a b c : Bool) → ((a || b) || c) ≡ (a || (b || c))
-or_assoc true b c = refl
-or_assoc false b c = refl
-
-or_comm : (a b : Bool) → (a || b) ≡ (b || a)
-or_comm true true = refl
-or_comm true false = refl
-or_comm false true = refl
-or_comm false false = refl
+  gathering_stands : (ps : List Boolean) → meaning (combining (Proper start) (lifted op)) ps ≡ unless_error ps (gathered op start ps)
+  gathering_stands ps = tallied-from_last (combining_free gathering_laws) ps ∙ gathering_means ps
 
 and_gathers : Gathers ◌&&◌ true
 and_gathers = record { assoc = and_assoc; comm = and_comm; neutral = λ a. refl }
@@ -121,11 +77,11 @@ is_either (Proper a) (Proper b) = refl
 is_either (Proper a) (Error f) = refl
 is_either (Error f) b = refl
 
-all_is : gathering (lifted ◌&&◌) true ≡ all_of
-all_is = ap (λ j. gathering j true) (fun_ext (λ a. fun_ext (is_both a)))
+lifted_both : lifted ◌&&◌ ≡ both
+lifted_both = fun_ext (λ a. fun_ext (is_both a))
 
-some_is : gathering (lifted ◌||◌) false ≡ some_of
-some_is = ap (λ j. gathering j false) (fun_ext (λ a. fun_ext (is_either a)))
+lifted_either : lifted ◌||◌ ≡ either
+lifted_either = fun_ext (λ a. fun_ext (is_either a))
 
 every_gathered : (ps : List Boolean) → gathered ◌&&◌ true ps ≡ every is_true ps
 every_gathered [] = refl
@@ -135,14 +91,20 @@ any_gathered : (ps : List Boolean) → gathered ◌||◌ false ps ≡ any is_tru
 any_gathered [] = refl
 any_gathered (p ∷ ps) = ap (λ b. is_true p || b) (any_gathered ps)
 
-pub and_laws : Laws all_of
-and_laws = subst Laws all_is (gathering_laws and_gathers)
+pub and_laws : OperationLaws (Proper true) both
+and_laws = subst (OperationLaws (Proper true)) lifted_both (gathering_laws and_gathers)
 
-pub or_laws : Laws some_of
-or_laws = subst Laws some_is (gathering_laws or_gathers)
+pub or_laws : OperationLaws (Proper false) either
+or_laws = subst (OperationLaws (Proper false)) lifted_either (gathering_laws or_gathers)
 
 pub and_all : AndAll
-and_all ps = ap (λ d. meaning d ps) (sym all_is) ∙ gathering_means and_gathers ps ∙ ap (unless_error ps) (every_gathered ps)
+and_all ps =
+    ap (λ op. meaning (combining (Proper true) op) ps) (sym lifted_both)
+    ∙ gathering_stands and_gathers ps
+    ∙ ap (unless_error ps) (every_gathered ps)
 
 pub or_some : OrSome
-or_some ps = ap (λ d. meaning d ps) (sym some_is) ∙ gathering_means or_gathers ps ∙ ap (unless_error ps) (any_gathered ps)
+or_some ps =
+    ap (λ op. meaning (combining (Proper false) op) ps) (sym lifted_either)
+    ∙ gathering_stands or_gathers ps
+    ∙ ap (unless_error ps) (any_gathered ps)

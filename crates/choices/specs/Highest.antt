@@ -1,20 +1,19 @@
 -- Max chooses by max_rank.
-use Rattle.std.specs.Prelude.{◌≡◌, true, cond, ℤ, pos, negsuc, ◌≤ℤ◌, int_lt, refl}
-use Rattle.std.proofs.Common.{sym, ap, ◌∙◌, arith}
+use Rattle.std.specs.Prelude.{◌≡◌, true, false, cond, ℤ, pos, negsuc, ◌≤ℤ◌, int_lt, refl}
+use Rattle.std.proofs.Common.{◌∙◌, arith}
 use Rattle.std.proofs.lemmas.Int.{ints}
-use Rattle.std.proofs.lemmas.Bool.{cond-false, false≢true}
+use Rattle.std.proofs.lemmas.Bool.{cond-false, false≢true, true≢false}
 use Rattle.numbers.specs.declared.fault.Fault.TheVariants.{Undef, MissElt, PosOver, NegOver, Unknown, ZeroDivide}
 use Rattle.numbers.specs.declared.integer.Integer.{Integer}
 use Rattle.numbers.specs.declared.integer.Integer.TheVariants.{Proper, Error}
 use Rattle.numbers.specs.Integers.{judged, barred, greatest, least}
 use Rattle.numbers.proofs.Judging.{judged_proper, not_lt}
-use Rattle.ordering.specs.Ranking.{max_rank}
-use Rattle.merging.specs.Operators.{Laws}
-use Rattle.choices.specs.Extremes.{greatest_of, MaxGreatest}
-use Rattle.choices.specs.Tallies.{Tally}
+use Rattle.ordering.specs.Ranking.{max_rank, maximum}
+use Rattle.merging.specs.Operations.{OperationLaws}
+use Rattle.choices.specs.Extremes.{MaxGreatest}
 use Rattle.choices.specs.Choosing.{Ranks, choosing_laws, chosen}
 
--- The tally with a rank.
+-- What has a rank; undef for the rank of what is barred.
 abbrev of_rank : ℤ → Integer
 of_rank z =
     cond (int_lt z least) (Error NegOver)
@@ -22,17 +21,17 @@ of_rank z =
     (cond (int_lt (pos 2147483648) z) (cond (int_lt (pos 2147483649) z) (Error Undef) (Error PosOver)) (Error Unknown))
     (judged z))
 
-back : (a : Integer) → Tally a → of_rank (max_rank a) ≡ a
-back (Proper n) h =
+back : (a : Integer) → barred a ≡ false → of_rank (max_rank a) ≡ a
+back (Proper n) e =
     cond-false _ _ _ (not_lt n.value least n.proper.0)
     ∙ cond-false _ _ _ (not_lt greatest n.value n.proper.1)
     ∙ judged_proper n.value n refl
-back (Error Undef) h = refl
-back (Error MissElt) h = absurd h
-back (Error PosOver) h = refl
-back (Error NegOver) h = refl
-back (Error Unknown) h = refl
-back (Error ZeroDivide) h = absurd h
+back (Error Undef) e = absurd (true≢false e)
+back (Error MissElt) e = absurd (true≢false e)
+back (Error PosOver) e = refl
+back (Error NegOver) e = refl
+back (Error Unknown) e = refl
+back (Error ZeroDivide) e = absurd (true≢false e)
 
 bounds : (a : Integer) → (negsuc 2147483647 ≤ℤ max_rank a) × (max_rank a ≤ℤ pos 2147483650)
 bounds (Proper n) = (omega (arith, ints, n.proper.0), omega (arith, ints, n.proper.1))
@@ -52,16 +51,17 @@ barred_top (Error NegOver) e = absurd (false≢true e)
 barred_top (Error Unknown) e = absurd (false≢true e)
 barred_top (Error ZeroDivide) e = refl
 
-max_ranks : Ranks max_rank (Error NegOver) (pos 2147483650)
+max_ranks : Ranks max_rank (Error NegOver) (pos 2147483650) of_rank
 max_ranks = record {
   start_open = refl;
   start_least = λ a. (bounds a).0;
   below_top = λ a. (bounds a).1;
   barred_top = barred_top;
-  tells = λ a b u v e. sym (back a u) ∙ ap of_rank e ∙ back b v;
+  tells_undef = refl;
+  tells = back;
 }
 
-pub max_laws : Laws greatest_of
+pub max_laws : OperationLaws (Error NegOver) maximum
 max_laws = choosing_laws max_ranks
 
 pub max_greatest : MaxGreatest

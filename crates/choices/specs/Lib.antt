@@ -1,7 +1,6 @@
 pub mod Extremes
 pub mod Truths
 pub mod Highest
-pub mod Tallies
 pub mod Choosing
 pub mod Lowest
 pub mod Gathering

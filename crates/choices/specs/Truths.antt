@@ -5,15 +5,16 @@ use Rattle.numbers.specs.declared.boolean.Boolean.{Boolean}
 use Rattle.numbers.specs.declared.boolean.Boolean.TheVariants.{Proper, Error}
 use Rattle.numbers.specs.Booleans.{both, either, is_error}
 use Rattle.merging.specs.Operators.{Definition, meaning}
+use Rattle.merging.specs.Operations.{combining}
 use Rattle.merging.specs.Parts.{any, every}
 
 -- And of no parts is true.
 abbrev pub all_of : Definition Boolean Boolean Boolean
-all_of = record { start = Proper true; tally = both (Proper true); join = both; close = λ t. t }
+all_of = combining (Proper true) both
 
 -- Or of no parts is false.
 abbrev pub some_of : Definition Boolean Boolean Boolean
-some_of = record { start = Proper false; tally = either (Proper false); join = either; close = λ t. t }
+some_of = combining (Proper false) either
 
 -- A part that is true.
 abbrev pub is_true : Boolean → Bool

@@ -1,67 +1,52 @@
-ghost use Rattle.choices.specs.Extremes.{greatest_of, least_of, MaxGreatest, MinLeast};
+ghost use Rattle.numbers.specs.declared.fault.Fault.TheVariants.{NegOver, PosOver};
+ghost use Rattle.numbers.specs.declared.integer.Integer.TheVariants.{Error};
+ghost use Rattle.ordering.specs.Ranking.{maximum, minimum};
+ghost use Rattle.choices.specs.Extremes.{MaxGreatest, MinLeast};
 ghost use Rattle.choices.specs.Highest.{max_laws};
 ghost use Rattle.choices.specs.Lowest.{min_laws};
 
-use merging::Operator;
+use merging::Operation;
 use numbers::{Fault, Integer};
 
+// Max of no parts is neg_over, which every other part outranks.
 pub struct Max;
 
-impl Operator for Max {
-    type Part = Integer;
+impl Operation for Max {
+    type Value = Integer;
 
-    type Tally = Integer;
+    ghost neutral = { Error NegOver };
 
-    type Closed = Integer;
+    ghost combine = { maximum };
 
-    ghost is = { greatest_of };
+    ghost laws = { max_laws };
 
-    ghost lawful = { max_laws };
-
-    fn start() -> Integer {
+    fn neutral() -> Integer {
         Integer::Error(Fault::NegOver)
     }
 
-    fn tally(part: Integer) -> Integer {
-        ordering::max(Self::start(), part)
-    }
-
-    fn join(a: Integer, b: Integer) -> Integer {
+    fn combine(a: Integer, b: Integer) -> Integer {
         ordering::max(a, b)
-    }
-
-    fn close(tally: Integer) -> Integer {
-        tally
     }
 }
 
+// Min of no parts is pos_over, which every other part outranks downward.
 pub struct Min;
 
-impl Operator for Min {
-    type Part = Integer;
+impl Operation for Min {
+    type Value = Integer;
 
-    type Tally = Integer;
+    ghost neutral = { Error PosOver };
 
-    type Closed = Integer;
+    ghost combine = { minimum };
 
-    ghost is = { least_of };
+    ghost laws = { min_laws };
 
-    ghost lawful = { min_laws };
-
-    fn start() -> Integer {
+    fn neutral() -> Integer {
         Integer::Error(Fault::PosOver)
     }
 
-    fn tally(part: Integer) -> Integer {
-        ordering::min(Self::start(), part)
-    }
-
-    fn join(a: Integer, b: Integer) -> Integer {
+    fn combine(a: Integer, b: Integer) -> Integer {
         ordering::min(a, b)
-    }
-
-    fn close(tally: Integer) -> Integer {
-        tally
     }
 }
 

@@ -1,66 +1,51 @@
-ghost use Rattle.choices.specs.Truths.{all_of, some_of, AndAll, OrSome};
+ghost use Rattle.std.specs.Prelude.{true, false};
+ghost use Rattle.numbers.specs.declared.boolean.Boolean.TheVariants.{Proper};
+ghost use Rattle.numbers.specs.Booleans.{both, either};
+ghost use Rattle.choices.specs.Truths.{AndAll, OrSome};
 ghost use Rattle.choices.specs.Gathering.{and_laws, or_laws};
 
-use merging::Operator;
+use merging::Operation;
 use numbers::Boolean;
 
+// And of no parts is true.
 pub struct And;
 
-impl Operator for And {
-    type Part = Boolean;
+impl Operation for And {
+    type Value = Boolean;
 
-    type Tally = Boolean;
+    ghost neutral = { Proper true };
 
-    type Closed = Boolean;
+    ghost combine = { both };
 
-    ghost is = { all_of };
+    ghost laws = { and_laws };
 
-    ghost lawful = { and_laws };
-
-    fn start() -> Boolean {
+    fn neutral() -> Boolean {
         Boolean::Proper(true)
     }
 
-    fn tally(part: Boolean) -> Boolean {
-        Self::start().and(part)
-    }
-
-    fn join(a: Boolean, b: Boolean) -> Boolean {
+    fn combine(a: Boolean, b: Boolean) -> Boolean {
         a.and(b)
-    }
-
-    fn close(tally: Boolean) -> Boolean {
-        tally
     }
 }
 
+// Or of no parts is false.
 pub struct Or;
 
-impl Operator for Or {
-    type Part = Boolean;
+impl Operation for Or {
+    type Value = Boolean;
 
-    type Tally = Boolean;
+    ghost neutral = { Proper false };
 
-    type Closed = Boolean;
+    ghost combine = { either };
 
-    ghost is = { some_of };
+    ghost laws = { or_laws };
 
-    ghost lawful = { or_laws };
-
-    fn start() -> Boolean {
+    fn neutral() -> Boolean {
         Boolean::Proper(false)
     }
 
-    fn tally(part: Boolean) -> Boolean {
-        Self::start().or(part)
-    }
-
-    fn join(a: Boolean, b: Boolean) -> Boolean {
+    fn combine(a: Boolean, b: Boolean) -> Boolean {
         a.or(b)
-    }
-
-    fn close(tally: Boolean) -> Boolean {
-        tally
     }
 }
 

@@ -1,4 +1,2 @@
 pub mod Grouping
-pub mod Sizing
-pub mod Ranked
 mod Steps

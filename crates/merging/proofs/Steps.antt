@@ -1,7 +1,7 @@
 -- The steps of a merge: what an operator's answers give where tallies of lists are joined and closed.
-use Rattle.std.proofs.Common.{◌≡◌, ℕ, ◌+◌, ◌-◌, ◌<◌, ◌≤◌, cond, List, [], ◌∷◌, ◌++◌, length, get_or, take, drop, Ok, Err, sym, ap, ◌∙◌, subst, ap₂, arith, length-append, length-drop, length-take, le-leb}
+use Rattle.std.proofs.Common.{◌≡◌, ℕ, ◌+◌, ◌<◌, ◌≤◌, cond, List, [], ◌∷◌, ◌++◌, length, get_or, take, Ok, Err, sym, ap, ◌∙◌, subst, ap₂, arith, length-append, length-take, le-leb}
 use Rattle.std.proofs.lemmas.List.Sums.{fold_more}
-use Rattle.std.proofs.lemmas.List.{drop_more, nil_from_length}
+use Rattle.std.proofs.lemmas.List.{nil_from_length}
 use Rattle.merging.specs.Operators.{Definition, Sized, sized_tally, Laws, most, tallied, meaning}
 use Rattle.merging.specs.Merged.{merged, too_many}
 use Rattle.merging.proofs.Grouping.{sized_tallied, tallied_one, tallied_first, tallied_append}
@@ -59,12 +59,9 @@ module _ {P T C : Type 0} {d : Definition P T C} (laws : Laws d) where
       ∙ sym (tallied_append laws ps qs both)
       ∙ ap (tallied d) (sym e)
 
-  -- A part's tally joined with that of all the parts after it.
-  pub joined_before : {t s r : T} (ps : List P) (i : ℕ) (x : P) → Joins d t s r → t ≡ d.tally x → s ≡ tallied d (drop i ps) → x ≡ get_or ps (i - 1) x → 0 < i → i ≤ length ps → length ps ≤ most → r ≡ tallied d (drop (i - 1) ps)
-  joined_before ps i x j p q e above h few =
-      let rest = drop i ps in
-      let fits : 1 + length rest ≤ most = omega (arith, length-drop i ps) in
-      let next : i ≡ (i - 1) + 1 = omega arith in
-      joined d (d.tally x) (tallied d rest) 1 (length rest) j p q (sized_tally x) (sized_tallied d rest (omega arith)) fits
-      ∙ sym (tallied_first laws x rest fits)
-      ∙ ap (tallied d) (ap₂ ◌∷◌ e (ap (λ n. drop n ps) next) ∙ sym (drop_more ps (i - 1) x (omega arith)))
+  -- A part's tally joined with that of the parts after it, where there are others before it.
+  pub joined_before : {t s r : T} (others later all : List P) (x : P) → Joins d t s r → t ≡ d.tally x → s ≡ tallied d later → all ≡ others ++ (x ∷ later) → length all ≤ most → r ≡ tallied d (x ∷ later)
+  joined_before others later all x j p q e few =
+      let fits : 1 + length later ≤ most = omega (arith, length-append others (x ∷ later), ap length e) in
+      joined d (d.tally x) (tallied d later) 1 (length later) j p q (sized_tally x) (sized_tallied d later (omega arith)) fits
+      ∙ sym (tallied_first laws x later fits)

@@ -22,21 +22,21 @@ pub trait Operators {
 
     ghost merges: { Merges };
 
-    ghost plus_is: { merges.plus ≡ meaning Self.Plus.Operator.is };
+    ghost plus_is: { merges.plus ≡ meaning Self.Plus.is };
 
-    ghost times_is: { merges.times ≡ meaning Self.Times.Operator.is };
+    ghost times_is: { merges.times ≡ meaning Self.Times.is };
 
-    ghost max_is: { merges.max ≡ meaning Self.Max.Operator.is };
+    ghost max_is: { merges.max ≡ meaning Self.Max.is };
 
-    ghost min_is: { merges.min ≡ meaning Self.Min.Operator.is };
+    ghost min_is: { merges.min ≡ meaning Self.Min.is };
 
-    ghost and_is: { merges.both ≡ meaning Self.And.Operator.is };
+    ghost and_is: { merges.both ≡ meaning Self.And.is };
 
-    ghost or_is: { merges.either ≡ meaning Self.Or.Operator.is };
+    ghost or_is: { merges.either ≡ meaning Self.Or.is };
 }
 
 // The operators on integers, by name.
-#[derive(Clone, Copy)]
+#[derive(Clone, Copy, PartialEq, Eq, Debug)]
 pub enum IntegerMerge {
     Plus,
     Times,
@@ -45,18 +45,19 @@ pub enum IntegerMerge {
 }
 
 // The operators on booleans, by name.
-#[derive(Clone, Copy)]
+#[derive(Clone, Copy, PartialEq, Eq, Debug)]
 pub enum BooleanMerge {
     And,
     Or,
 }
 
-// Merges integers with the operator that is named.
+// Merges integers with the operator that is named. `merge_booleans` has other kinds and other operators: a trait over the
+// kinds would only move the two matches into its impls.
 pub fn merge_integers<S: Operators>(
     kind: IntegerMerge,
     parts: &[Integer],
 ) -> Result<Integer, TooManyParts>
-    ensures { result ≡ merged_by S.Operators.merges kind parts.now }
+    ensures { result ≡ merged_by S.merges kind parts.now }
 {
     match kind {
         IntegerMerge::Plus => merge::<S::Plus>(parts),
@@ -71,7 +72,7 @@ pub fn merge_booleans<S: Operators>(
     kind: BooleanMerge,
     parts: &[Boolean],
 ) -> Result<Boolean, TooManyParts>
-    ensures { result ≡ merged_booleans_by S.Operators.merges kind parts.now }
+    ensures { result ≡ merged_booleans_by S.merges kind parts.now }
 {
     match kind {
         BooleanMerge::And => merge::<S::And>(parts),

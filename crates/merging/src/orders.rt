@@ -1,27 +1,37 @@
-ghost use Rattle.std.specs.Prelude.{◌≡◌, ◌≤◌, length};
+ghost use Rattle.std.specs.Prelude.{◌≡◌, ◌<◌, ◌≤◌, length, Some, codes, OnOk, OnErr};
 ghost use Rattle.merging.specs.Operators.{most, tallied};
 ghost use Rattle.merging.specs.Merged.{Grouped, merged};
 ghost use Rattle.merging.specs.Trees.{EveryGrouping};
 
 use crate::operator::Operator;
+use std::error::Error;
+use std::fmt;
 
 // The most parts that a merge takes.
 pub const MOST: usize = 32768;
 
 // The refusal of more parts than that.
-#[derive(Clone, Copy, Debug)]
+#[derive(Clone, Copy, PartialEq, Eq, Debug)]
 pub struct TooManyParts;
+
+impl fmt::Display for TooManyParts {
+    ghost output = { λ _. Some (codes "more than 32768 parts") };
+
+    fn fmt<W: fmt::Write>(&self, f: &mut fmt::Formatter<W>) -> fmt::Result {
+        f.write_str("more than 32768 parts")
+    }
+}
+
+impl Error for TooManyParts {}
 
 // Merges parts in order from the front.
 pub fn merge<O: Operator>(parts: &[O::Part]) -> Result<O::Closed, TooManyParts>
 where
     O::Part: Copy,
-    ensures means { result ≡ merged O.Operator.is parts.now }
-    ensures grouped { Grouped O.Operator.is parts.now result }
+    ensures means { result ≡ merged O.is parts.now }
+    ensures grouped { Grouped O.is parts.now result }
 {
-    if parts.len() > MOST {
-        return Err(TooManyParts);
-    }
+    refuse_many(parts)?;
     let mut sum = O::start();
     for part in parts {
         sum = O::join(sum, O::tally(*part));
@@ -33,14 +43,12 @@ where
 pub fn merge_backwards<O: Operator>(parts: &[O::Part]) -> Result<O::Closed, TooManyParts>
 where
     O::Part: Copy,
-    ensures means { result ≡ merged O.Operator.is parts.now }
+    ensures means { result ≡ merged O.is parts.now }
 {
-    if parts.len() > MOST {
-        return Err(TooManyParts);
-    }
+    refuse_many(parts)?;
     let mut sum = O::start();
-    for i in (0..parts.len()).rev() {
-        sum = O::join(O::tally(parts[i]), sum);
+    for part in parts.iter().rev() {
+        sum = O::join(O::tally(*part), sum);
     }
     Ok(O::close(sum))
 }
@@ -49,12 +57,21 @@ where
 pub fn merge_halves<O: Operator>(parts: &[O::Part]) -> Result<O::Closed, TooManyParts>
 where
     O::Part: Copy,
-    ensures means { result ≡ merged O.Operator.is parts.now }
+    ensures means { result ≡ merged O.is parts.now }
+{
+    refuse_many(parts)?;
+    Ok(O::close(tally_halves::<O>(parts)))
+}
+
+fn refuse_many<P>(parts: &[P]) -> Result<(), TooManyParts>
+    ensures few { OnOk result (length parts.now ≤ most) }
+    ensures many { OnErr result (most < length parts.now) }
 {
     if parts.len() > MOST {
-        return Err(TooManyParts);
+        Err(TooManyParts)
+    } else {
+        Ok(())
     }
-    Ok(O::close(tally_halves::<O>(parts)))
 }
 
 // The tally of parts, as the join of the tallies of their halves.
@@ -62,7 +79,7 @@ fn tally_halves<O: Operator>(parts: &[O::Part]) -> O::Tally
 where
     O::Part: Copy,
     requires { length parts.now ≤ most }
-    ensures { result ≡ tallied O.Operator.is parts.now }
+    ensures { result ≡ tallied O.is parts.now }
 {
     match parts {
         [] => O::start(),
@@ -76,5 +93,5 @@ where
 
 // Every order and grouping of at most 32,768 parts has the meaning of the list, for every operator.
 pub fn grouping_stands<O: Operator>()
-    ensures { EveryGrouping O.Operator.is }
+    ensures { EveryGrouping O.is }
 {}

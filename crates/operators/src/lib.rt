@@ -3,7 +3,7 @@
 
 ghost use Rattle.operators.specs.Standard.{standard};
 ghost use Rattle.operators.specs.Figures.{Figures, NotRepeatedSum};
-ghost use Rattle.std.proofs.Common.{rules};
+ghost use Rattle.std.specs.Prelude.{refl};
 
 use merging::Operators;
 
@@ -25,17 +25,17 @@ impl Operators for Standard {
 
     ghost merges = { standard };
 
-    ghost plus_is = { Prim.search rules };
+    ghost plus_is = { refl };
 
-    ghost times_is = { Prim.search rules };
+    ghost times_is = { refl };
 
-    ghost max_is = { Prim.search rules };
+    ghost max_is = { refl };
 
-    ghost min_is = { Prim.search rules };
+    ghost min_is = { refl };
 
-    ghost and_is = { Prim.search rules };
+    ghost and_is = { refl };
 
-    ghost or_is = { Prim.search rules };
+    ghost or_is = { refl };
 }
 
 // Ten figures, over the definitions that the contracts use.

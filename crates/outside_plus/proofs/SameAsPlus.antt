@@ -1,24 +1,23 @@
 -- Two sums mean what plus means.
-use Rattle.std.proofs.Common.{◌≡◌, Bool, cond, ◌&&◌, ◌||◌, List, [], ◌∷◌, ℤ, pos, ◌+ℤ◌, ◌≤ℤ◌, fold, sym, refl, ap, ◌∙◌, ap₂, arith}
+use Rattle.std.proofs.Common.{◌≡◌, ◌||◌, List, [], ◌∷◌, ℤ, pos, ◌+ℤ◌, ◌≤ℤ◌, sym, refl, ap, ◌∙◌, ap₂, arith}
 use mathlib.Core.Path.{fun_ext}
 use lib.Signed.{lt_z}
 use borrow.Author.Differences.{ints}
 use Rattle.std.specs.Int.{int_min, int_max}
 use Rattle.std.proofs.lemmas.Int.{clamps}
-use Rattle.numbers.specs.declared.fault.Fault.TheVariants.{Undef, PosOver, NegOver, Unknown}
 use Rattle.numbers.specs.declared.integer.Integer.{Integer}
 use Rattle.numbers.specs.declared.integer.Integer.TheVariants.{Proper, Error}
-use Rattle.numbers.specs.Integers.{judged, is_fault, barred}
 use Rattle.arithmetic.specs.Arithmetic.{negative, positive}
-use Rattle.merging.specs.Operators.{tallied}
 use Rattle.merging.specs.Merged.{merged, unless_many}
 use Rattle.merging.specs.Parts.{any}
+use Rattle.merging.specs.Free.{from_last, tallied-from_last}
+use Rattle.sums.specs.Notes.{settled}
+use Rattle.sums.specs.NotesLaws.{notes_in}
 use Rattle.sums.specs.Plus.{amount, plus}
-use Rattle.sums.specs.Sums.{total, sum_of}
+use Rattle.sums.specs.Sums.{total}
 use Rattle.sums.specs.PlusLaws.{plus_sums}
-use Rattle.outside_plus.specs.declared.Sides.{Sides}
-use Rattle.outside_plus.specs.TwoSums.{no_parts, one_part, together, settled, two_sums, SameAsPlus}
-use Rattle.outside_plus.specs.SidesLaws.{of, together_assoc, together_comm, together_none}
+use Rattle.outside_plus.specs.TwoSums.{one_part, together, closed, two_sums, SameAsPlus}
+use Rattle.outside_plus.specs.SidesLaws.{two_sums_free}
 
 -- The sums of the parts below 0 and above.
 abbrev below : List Integer → ℤ
@@ -29,15 +28,9 @@ abbrev above : List Integer → ℤ
 above [] = pos 0
 above (p ∷ ps) = int_max (amount p) (pos 0) +ℤ above ps
 
-abbrev noted : List Integer → Sides
-noted ps = of (below ps) (above ps) (any (is_fault PosOver) ps) (any (is_fault NegOver) ps) (any (is_fault Unknown) ps) (any barred ps)
-
-onto_noted : (ps : List Integer) (t : Sides) → fold (λ s p. together s (one_part p)) t ps ≡ together t (noted ps)
-onto_noted [] t = sym (together_comm t no_parts ∙ together_none t)
-onto_noted (p ∷ ps) t = onto_noted ps (together t (one_part p)) ∙ together_assoc t (one_part p) (noted ps)
-
-tallied_noted : (ps : List Integer) → tallied two_sums ps ≡ noted ps
-tallied_noted ps = onto_noted ps no_parts ∙ together_none (noted ps)
+noted : (ps : List Integer) → from_last two_sums ps ≡ record { below = below ps; above = above ps; notes = notes_in ps }
+noted [] = refl
+noted (p ∷ ps) = ap (together (one_part p)) (noted ps)
 
 -- Each side lies on its side of 0, and the two together are the exact sum.
 below_low : (ps : List Integer) → below ps ≤ℤ pos 0
@@ -85,26 +78,12 @@ above_told (p ∷ ps) =
     high_sum (int_max (amount p) (pos 0)) (above ps) (omega (arith, ints, clamps)) (above_high ps)
     ∙ ap₂ ◌||◌ (high_part p) (above_told ps)
 
--- What is answered, by the notes and the sum.
-abbrev answered : (low high pos_over neg_over unknown undef : Bool) → ℤ → Integer
-answered low high over under unknown undef z =
-    cond undef (Error Undef)
-    (cond (unknown || (over && under) || (over && low) || (under && high)) (Error Unknown)
-    (cond over (Error PosOver)
-    (cond under (Error NegOver)
-    (judged z))))
-
-settled_noted : (ps : List Integer) → settled (noted ps) ≡ sum_of ps
-settled_noted ps =
-    let over = any (is_fault PosOver) ps in
-    let under = any (is_fault NegOver) ps in
-    let unsure = any (is_fault Unknown) ps in
-    let bar = any barred ps in
-    ap₂ (λ low high. answered low high over under unsure bar (above ps +ℤ below ps)) (below_told ps) (above_told ps)
-    ∙ ap (answered (any negative ps) (any positive ps) over under unsure bar) (sides_total ps)
-
 pub same_as_plus : SameAsPlus
-same_as_plus ps = ap settled (tallied_noted ps) ∙ settled_noted ps ∙ sym (plus_sums ps)
+same_as_plus ps =
+    ap closed (tallied-from_last two_sums_free ps ∙ noted ps)
+    ∙ ap₂ (settled (notes_in ps) (above ps +ℤ below ps)) (below_told ps) (above_told ps)
+    ∙ ap (λ z. settled (notes_in ps) z (any negative ps) (any positive ps)) (sides_total ps)
+    ∙ sym (plus_sums ps)
 
 pub merged_same : (ps : List Integer) → merged two_sums ps ≡ merged plus ps
 merged_same ps = ap (λ f. unless_many f ps) (fun_ext same_as_plus)

@@ -1,22 +1,17 @@
--- The laws of two sums, field by field, and their exactness at 64 bits.
-use Rattle.std.specs.Prelude.{◌≡◌, ℕ, ◌+◌, ◌*◌, ◌≤◌, Bool, ◌||◌, ℤ, pos, ◌+ℤ◌, neg_ℤ, ◌≤ℤ◌, FitsSigned, refl}
-use Rattle.std.proofs.Common.{arith}
+-- The laws of two sums, and their exactness at 64 bits.
+use Rattle.std.specs.Prelude.{◌≡◌, ℕ, ◌+◌, ◌*◌, ◌≤◌, ℤ, pos, ◌+ℤ◌, neg_ℤ, ◌≤ℤ◌, FitsSigned}
+use Rattle.std.proofs.Common.{ap₂, arith}
 use Rattle.std.specs.Int.{w64}
 use Rattle.std.proofs.lemmas.Int.{clamps, ints}
+use Rattle.std.proofs.Math.IntN.{+ℤ_assoc, +ℤ_comm, +ℤ_idl}
 use Rattle.numbers.specs.declared.integer.Integer.{Integer}
 use Rattle.numbers.specs.declared.integer.Integer.TheVariants.{Proper, Error}
 use Rattle.merging.specs.Operators.{Sized, Laws, most}
-use Rattle.merging.proofs.Sizing.{Kept, every_sized, laws_by}
-use Rattle.sums.specs.Notes.{or_assoc, or_comm, sum_assoc, sum_comm, sum_zero}
+use Rattle.merging.specs.Sizing.{Kept, every_sized}
+use Rattle.merging.specs.Free.{FreeLaws, free_laws}
+use Rattle.sums.specs.NotesLaws.{notes_assoc, notes_comm}
 use Rattle.outside_plus.specs.declared.Sides.{Sides}
 use Rattle.outside_plus.specs.TwoSums.{no_parts, one_part, together, two_sums}
-
-abbrev pub of : ℤ → ℤ → Bool → Bool → Bool → Bool → Sides
-of x y c d e f = record { below = x; above = y; pos_over = c; neg_over = d; unknown = e; undef = f }
-
--- Tallies whose fields are the same.
-same : {x x' y y' : ℤ} {c c' d d' e e' f f' : Bool} → x ≡ x' → y ≡ y' → c ≡ c' → d ≡ d' → e ≡ e' → f ≡ f' → of x y c d e f ≡ of x' y' c' d' e' f'
-same p q r s t u = cc
 
 -- The sides of n parts lie between −n·M and 0, and between 0 and n·M.
 abbrev Within : ℕ → Sides → Type 0
@@ -56,34 +51,22 @@ both_fit n t s h =
     let u = every_sized within s in
     omega (arith, ints, u.0, u.1, u.2, u.3)
 
--- A join whose sums are the exact ones.
-pub added : (a b : Sides) (x y : ℤ) → x ≡ a.below +ℤ b.below → y ≡ a.above +ℤ b.above → of x y (a.pos_over || b.pos_over) (a.neg_over || b.neg_over) (a.unknown || b.unknown) (a.undef || b.undef) ≡ together a b
-added a b x y d e = same d e refl refl refl refl
+together_assoc : (a b c : Sides) → together (together a b) c ≡ together a (together b c)
+together_assoc a b c = cc (+ℤ_assoc a.below b.below c.below, +ℤ_assoc a.above b.above c.above, notes_assoc a.notes b.notes c.notes)
 
-pub together_assoc : (a b c : Sides) → together (together a b) c ≡ together a (together b c)
-together_assoc a b c =
-    same (sum_assoc a.below b.below c.below)
-    (sum_assoc a.above b.above c.above)
-    (or_assoc a.pos_over b.pos_over c.pos_over)
-    (or_assoc a.neg_over b.neg_over c.neg_over)
-    (or_assoc a.unknown b.unknown c.unknown)
-    (or_assoc a.undef b.undef c.undef)
+together_comm : (a b : Sides) → together a b ≡ together b a
+together_comm a b = cc (+ℤ_comm a.below b.below, +ℤ_comm a.above b.above, notes_comm a.notes b.notes)
 
-pub together_comm : (a b : Sides) → together a b ≡ together b a
-together_comm a b =
-    same (sum_comm a.below b.below)
-    (sum_comm a.above b.above)
-    (or_comm a.pos_over b.pos_over)
-    (or_comm a.neg_over b.neg_over)
-    (or_comm a.unknown b.unknown)
-    (or_comm a.undef b.undef)
+together_none : (a : Sides) → together no_parts a ≡ a
+together_none a = ap₂ (λ (x y : ℤ). record { below = x; above = y; notes = a.notes }) (+ℤ_idl a.below) (+ℤ_idl a.above)
 
-pub together_none : (a : Sides) → together no_parts a ≡ a
-together_none a = same (sum_zero a.below) (sum_zero a.above) refl refl refl refl
+pub two_sums_free : FreeLaws two_sums
+two_sums_free = record {
+  assoc = together_assoc;
+  comm = together_comm;
+  start_kept = together_none no_parts;
+  tally_kept = λ p. together_none (one_part p);
+}
 
 pub two_sums_laws : Laws two_sums
-two_sums_laws = laws_by within (record {
-  assoc = λ k m n a b c u v w h. together_assoc a b c;
-  comm = λ m n a b u v h. together_comm a b;
-  neutral = λ n a u h. together_none a;
-})
+two_sums_laws = free_laws two_sums_free

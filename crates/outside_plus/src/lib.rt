@@ -4,34 +4,20 @@
 
 ghost use Rattle.std.specs.Prelude.{◌≡◌};
 ghost use Rattle.merging.specs.Merged.{merged};
-ghost use Rattle.sums.specs.Plus.{amount, plus};
-ghost use Rattle.outside_plus.specs.TwoSums.{two_sums, unsettled, SameAsPlus};
+ghost use Rattle.sums.specs.Plus.{plus};
+ghost use Rattle.outside_plus.specs.TwoSums.{two_sums, SameAsPlus};
 ghost use Rattle.outside_plus.specs.SidesLaws.{two_sums_laws};
 
 use merging::{Operator, TooManyParts, merge};
-use numbers::{Fault, Integer};
+use numbers::Integer;
+use sums::{Notes, amount};
 
 // The tally: the sum of the parts below 0, the sum of those above, and notes of the errors.
-#[derive(Clone, Copy)]
+#[derive(Clone, Copy, PartialEq, Eq, Debug)]
 pub struct Sides {
     below: i64,
     above: i64,
-    pos_over: bool,
-    neg_over: bool,
-    unknown: bool,
-    undef: bool,
-}
-
-impl Sides {
-    // Whether an over met the other side, or a part was unknown.
-    fn is_unsettled(self) -> bool
-        ensures { result ≡ unsettled self }
-    {
-        self.unknown
-            | (self.pos_over & self.neg_over)
-            | (self.pos_over & (self.below < 0))
-            | (self.neg_over & (self.above > 0))
-    }
+    notes: Notes,
 }
 
 pub struct TwoSums;
@@ -51,10 +37,7 @@ impl Operator for TwoSums {
         Sides {
             below: 0,
             above: 0,
-            pos_over: false,
-            neg_over: false,
-            unknown: false,
-            undef: false,
+            notes: Notes::none(),
         }
     }
 
@@ -63,10 +46,7 @@ impl Operator for TwoSums {
         Sides {
             below: amount.min(0),
             above: amount.max(0),
-            pos_over: part.is_fault(Fault::PosOver),
-            neg_over: part.is_fault(Fault::NegOver),
-            unknown: part.is_fault(Fault::Unknown),
-            undef: part.is_barred(),
+            notes: Notes::of(part),
         }
     }
 
@@ -74,26 +54,13 @@ impl Operator for TwoSums {
         Sides {
             below: a.below.saturating_add(b.below),
             above: a.above.saturating_add(b.above),
-            pos_over: a.pos_over | b.pos_over,
-            neg_over: a.neg_over | b.neg_over,
-            unknown: a.unknown | b.unknown,
-            undef: a.undef | b.undef,
+            notes: a.notes.join(b.notes),
         }
     }
 
     fn close(tally: Sides) -> Integer {
         let sum = tally.above.saturating_add(tally.below);
-        if tally.undef {
-            Integer::Error(Fault::Undef)
-        } else if tally.is_unsettled() {
-            Integer::Error(Fault::Unknown)
-        } else if tally.pos_over {
-            Integer::Error(Fault::PosOver)
-        } else if tally.neg_over {
-            Integer::Error(Fault::NegOver)
-        } else {
-            Integer::judge(sum)
-        }
+        tally.notes.settle(sum, tally.below < 0, tally.above > 0)
     }
 }
 
@@ -107,14 +74,4 @@ pub fn merge_apart(parts: &[Integer]) -> Result<Integer, TooManyParts>
     ensures { result ≡ merged plus parts.now }
 {
     merge::<TwoSums>(parts)
-}
-
-// What a part adds; an error adds nothing and is noted.
-fn amount(part: Integer) -> i64
-    ensures { result ≡ amount part }
-{
-    match part {
-        Integer::Proper(number) => number.wide(),
-        Integer::Error(_) => 0,
-    }
 }

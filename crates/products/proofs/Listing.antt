@@ -1,5 +1,5 @@
 -- What times means for a list, by the product of its factors.
-use Rattle.std.proofs.Common.{◌≡◌, ℕ, zero, suc, ◌*◌, ◌<◌, Bool, true, false, cond, not, ◌||◌, List, [], ◌∷◌, ℤ, pos, negsuc, ◌*ℤ◌, fold, sym, refl, ap, ◌∙◌, subst, ap₂, zero-lt-suc, mul-pos, mul-zero, zero-mul, arith}
+use Rattle.std.proofs.Common.{◌≡◌, ℕ, zero, suc, ◌*◌, ◌<◌, Bool, true, false, cond, not, ◌||◌, List, [], ◌∷◌, ℤ, pos, negsuc, ◌*ℤ◌, sym, refl, ap, ◌∙◌, subst, ap₂, zero-lt-suc, mul-pos, mul-zero, zero-mul, arith}
 use lib.Signed.{lt_z}
 use Rattle.numbers.specs.declared.fault.Fault.TheVariants.{Undef, MissElt, PosOver, NegOver, Unknown, ZeroDivide}
 use Rattle.numbers.specs.declared.integer.Integer.{Integer}
@@ -7,38 +7,34 @@ use Rattle.numbers.specs.declared.integer.Integer.TheVariants.{Proper, Error}
 use Rattle.numbers.specs.Integers.{judged, is_fault, barred}
 use Rattle.arithmetic.specs.Arithmetic.{is_zero}
 use Rattle.merging.specs.Operators.{meaning}
+use Rattle.merging.specs.Operations.{combining}
+use Rattle.merging.specs.Free.{from_last, tallied-from_last}
+use Rattle.merging.specs.Combining.{combining_free}
 use Rattle.merging.specs.Parts.{any}
 use Rattle.products.specs.Products.{weight, exact_product, TimesMultiplies}
-use Rattle.products.specs.Factors.{Factor, number, unknown, undefined, of_number, signed, factor, value, minus, mul, multiplied, Tally}
-use Rattle.products.specs.Multiplying.{settle, times_assoc, times_comm, times_one, value_tally}
+use Rattle.products.specs.Factors.{Factor, number, unknown, undefined, of_number, signed, factor, value, minus, mul, multiplied}
+use Rattle.products.specs.Multiplying.{settle, times_comm, times_one}
 use Rattle.products.specs.Rules.{below_zero, above_zero}
-use Rattle.products.specs.TimesLaws.{times_is, itself}
+use Rattle.products.specs.TimesLaws.{multiplied_is, multiplied_laws}
 
 -- The product of the factors of a list.
 abbrev factors : List Integer → Factor
 factors [] = number false 1
 factors (p ∷ ps) = mul (factor p) (factors ps)
 
--- a tally times a part's
-abbrev next : Integer → Integer → Integer
-next t p = multiplied t (multiplied (judged (pos 1)) p)
+-- One part more, before a list's product.
+first_factor : (p : Integer) (k : Factor) → multiplied (multiplied (judged (pos 1)) p) (value k) ≡ value (mul (factor p) k)
+first_factor p k =
+    let x = factor p in
+    ap (λ y. multiplied (value y) (value k)) (times_one x)
+    ∙ settle x (factor (value k))
+    ∙ ap value (times_comm x (factor (value k)))
+    ∙ settle k x
+    ∙ ap value (times_comm k x)
 
-next_is : (t p : Integer) → next t p ≡ value (mul (factor t) (factor p))
-next_is t p =
-    let x = factor t in
-    let y = factor p in
-    ap (λ r. value (mul x (factor (value r)))) (times_one y)
-    ∙ ap value (times_comm x (factor (value y)))
-    ∙ settle y x
-    ∙ ap value (times_comm y x)
-
-onto_factors : (ps : List Integer) (t : Integer) → Tally t → fold next t ps ≡ value (mul (factor t) (factors ps))
-onto_factors [] t h = sym (ap value (times_comm (factor t) (number false 1) ∙ times_one (factor t)) ∙ itself t h)
-onto_factors (p ∷ ps) t h =
-    onto_factors ps (next t p) (value_tally (mul (factor t) (factor (multiplied (judged (pos 1)) p))))
-    ∙ ap (λ r. value (mul (factor r) (factors ps))) (next_is t p)
-    ∙ settle (mul (factor t) (factor p)) (factors ps)
-    ∙ times_assoc (factor t) (factor p) (factors ps)
+factored : (ps : List Integer) → from_last (combining (judged (pos 1)) multiplied) ps ≡ value (factors ps)
+factored [] = refl
+factored (p ∷ ps) = ap (multiplied (multiplied (judged (pos 1)) p)) (factored ps) ∙ first_factor p (factors ps)
 
 -- What is found in a list: whether it has something barred, a 0, unknown; and its exact product.
 record Found : Type 0 where
@@ -141,7 +137,7 @@ comes_to (number s (suc m)) f h = sym (ap₂ (λ b n. answered b n f.unk f.exact
 
 pub times_multiplies : TimesMultiplies
 times_multiplies ps =
-    ap (λ d. meaning d ps) (sym times_is)
-    ∙ onto_factors ps (judged (pos 1)) tt
-    ∙ ap value (times_one (factors ps))
+    ap (λ m. meaning (combining (judged (pos 1)) m) ps) (sym multiplied_is)
+    ∙ tallied-from_last (combining_free multiplied_laws) ps
+    ∙ factored ps
     ∙ comes_to (factors ps) (found ps) (told ps)

@@ -4,11 +4,8 @@ use Rattle.numbers.specs.declared.integer.Integer.{Integer}
 use Rattle.numbers.specs.Integers.{judged}
 use Rattle.arithmetic.specs.Arithmetic.{product}
 use Rattle.merging.specs.Operators.{Definition}
+use Rattle.merging.specs.Operations.{combining}
 
--- An operator that starts at 1 and joins tallies by a multiplication.
-abbrev pub multiplying : (Integer → Integer → Integer) → Definition Integer Integer Integer
-multiplying by = record { start = judged (pos 1); tally = by (judged (pos 1)); join = by; close = λ t. t }
-
--- Times, by the rules of multiplication.
+-- Times of no parts is 1.
 abbrev pub times : Definition Integer Integer Integer
-times = multiplying product
+times = combining (judged (pos 1)) product

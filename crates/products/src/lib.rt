@@ -1,40 +1,33 @@
 // Times: the product of many integers, whatever their order.
 #![tactic(auto)]
 
-ghost use Rattle.products.specs.Times.{times};
+ghost use Rattle.std.specs.Prelude.{pos};
+ghost use Rattle.numbers.specs.Integers.{judged};
+ghost use Rattle.arithmetic.specs.Arithmetic.{product};
 ghost use Rattle.products.specs.Products.{TimesMultiplies};
 ghost use Rattle.products.specs.TimesLaws.{times_laws};
 
-use merging::Operator;
+use merging::Operation;
 use numbers::Integer;
 
+// Times of no parts is 1.
 pub struct Times;
 
-impl Operator for Times {
-    type Part = Integer;
+impl Operation for Times {
+    type Value = Integer;
 
-    type Tally = Integer;
+    ghost neutral = { judged (pos 1) };
 
-    type Closed = Integer;
+    ghost combine = { product };
 
-    ghost is = { times };
+    ghost laws = { times_laws };
 
-    ghost lawful = { times_laws };
-
-    fn start() -> Integer {
+    fn neutral() -> Integer {
         Integer::judge(1)
     }
 
-    fn tally(part: Integer) -> Integer {
-        arithmetic::times(Self::start(), part)
-    }
-
-    fn join(a: Integer, b: Integer) -> Integer {
+    fn combine(a: Integer, b: Integer) -> Integer {
         arithmetic::times(a, b)
-    }
-
-    fn close(tally: Integer) -> Integer {
-        tally
     }
 }
 

@@ -1,27 +1,21 @@
--- The laws of plus, field by field, and the exactness of its sums at 64 bits.
-use Rattle.std.specs.Prelude.{◌≡◌, ℕ, ◌+◌, ◌*◌, ◌≤◌, Bool, ◌||◌, List, [], ◌∷◌, ℤ, pos, ◌+ℤ◌, neg_ℤ, ◌≤ℤ◌, fold, FitsSigned, refl}
-use Rattle.std.proofs.Common.{sym, ap, ◌∙◌, arith}
+-- The laws of plus, and the exactness of its sums at 64 bits.
+use Rattle.std.specs.Prelude.{◌≡◌, ℕ, ◌+◌, ◌*◌, ◌≤◌, List, [], ◌∷◌, ℤ, pos, ◌+ℤ◌, neg_ℤ, ◌≤ℤ◌, FitsSigned, refl}
+use Rattle.std.proofs.Common.{ap, ◌∙◌, arith}
 use Rattle.std.proofs.lemmas.Int.{ints}
+use Rattle.std.proofs.Math.Bool.{or_assoc, or_comm}
+use Rattle.std.proofs.Math.IntN.{+ℤ_assoc, +ℤ_comm, +ℤ_idl}
 use Rattle.std.specs.Int.{w64}
-use Rattle.numbers.specs.declared.fault.Fault.TheVariants.{PosOver, NegOver, Unknown}
 use Rattle.numbers.specs.declared.integer.Integer.{Integer}
 use Rattle.numbers.specs.declared.integer.Integer.TheVariants.{Proper, Error}
-use Rattle.numbers.specs.Integers.{is_fault, barred}
 use Rattle.arithmetic.specs.Arithmetic.{negative, positive}
-use Rattle.merging.specs.Operators.{Sized, Laws, most, tallied}
-use Rattle.merging.proofs.Sizing.{Kept, every_sized, laws_by}
+use Rattle.merging.specs.Operators.{Sized, Laws, most}
+use Rattle.merging.specs.Sizing.{Kept, every_sized}
+use Rattle.merging.specs.Free.{FreeLaws, free_laws, from_last, tallied-from_last}
 use Rattle.merging.specs.Parts.{any}
 use Rattle.sums.specs.declared.Sum.{Sum}
-use Rattle.sums.specs.Plus.{no_parts, one_part, together, settled, plus}
+use Rattle.sums.specs.Plus.{no_parts, one_part, together, plus}
 use Rattle.sums.specs.Sums.{total, PlusSums}
-use Rattle.sums.specs.Notes.{or_assoc, or_comm, sum_assoc, sum_comm, sum_zero}
-
-abbrev of : ℤ → Bool → Bool → Bool → Bool → Bool → Bool → Sum
-of z a b c d e f = record { sum = z; negative = a; positive = b; pos_over = c; neg_over = d; unknown = e; undef = f }
-
--- Tallies whose fields are the same.
-same : {z z' : ℤ} {a a' b b' c c' d d' e e' f f' : Bool} → z ≡ z' → a ≡ a' → b ≡ b' → c ≡ c' → d ≡ d' → e ≡ e' → f ≡ f' → of z a b c d e f ≡ of z' a' b' c' d' e' f'
-same p q r s t u v = cc
+use Rattle.sums.specs.NotesLaws.{notes_assoc, notes_comm, notes_in}
 
 -- The sum of n parts lies between −n·M and n·M.
 abbrev Within : ℕ → Sum → Type 0
@@ -45,50 +39,40 @@ sums_fit m n a b s t h =
     let v = every_sized within t in
     omega (arith, ints, u.0, u.1, v.0, v.1)
 
--- A join whose sum is the exact one.
-pub added : (a b : Sum) (z : ℤ) → z ≡ a.sum +ℤ b.sum → of z (a.negative || b.negative) (a.positive || b.positive) (a.pos_over || b.pos_over) (a.neg_over || b.neg_over) (a.unknown || b.unknown) (a.undef || b.undef) ≡ together a b
-added a b z e = same e refl refl refl refl refl refl
-
-pub together_assoc : (a b c : Sum) → together (together a b) c ≡ together a (together b c)
-together_assoc a b c =
-    same (sum_assoc a.sum b.sum c.sum)
-    (or_assoc a.negative b.negative c.negative)
-    (or_assoc a.positive b.positive c.positive)
-    (or_assoc a.pos_over b.pos_over c.pos_over)
-    (or_assoc a.neg_over b.neg_over c.neg_over)
-    (or_assoc a.unknown b.unknown c.unknown)
-    (or_assoc a.undef b.undef c.undef)
+together_assoc : (a b c : Sum) → together (together a b) c ≡ together a (together b c)
+together_assoc a b c = cc (
+  +ℤ_assoc a.sum b.sum c.sum,
+  or_assoc a.negative b.negative c.negative,
+  or_assoc a.positive b.positive c.positive,
+  notes_assoc a.notes b.notes c.notes,
+)
 
 together_comm : (a b : Sum) → together a b ≡ together b a
-together_comm a b =
-    same (sum_comm a.sum b.sum)
-    (or_comm a.negative b.negative)
-    (or_comm a.positive b.positive)
-    (or_comm a.pos_over b.pos_over)
-    (or_comm a.neg_over b.neg_over)
-    (or_comm a.unknown b.unknown)
-    (or_comm a.undef b.undef)
+together_comm a b = cc (
+  +ℤ_comm a.sum b.sum,
+  or_comm a.negative b.negative,
+  or_comm a.positive b.positive,
+  notes_comm a.notes b.notes,
+)
 
 together_none : (a : Sum) → together no_parts a ≡ a
-together_none a = same (sum_zero a.sum) refl refl refl refl refl refl
+together_none a = ap (λ (z : ℤ). record a { sum = z }) (+ℤ_idl a.sum)
+
+plus_free : FreeLaws plus
+plus_free = record {
+  assoc = together_assoc;
+  comm = together_comm;
+  start_kept = together_none no_parts;
+  tally_kept = λ p. together_none (one_part p);
+}
 
 pub plus_laws : Laws plus
-plus_laws = laws_by within (record {
-  assoc = λ k m n a b c u v w h. together_assoc a b c;
-  comm = λ m n a b u v h. together_comm a b;
-  neutral = λ n a u h. together_none a;
-})
+plus_laws = free_laws plus_free
 
 -- What is noted of a list: its exact sum, and the sorts of part that occur.
-abbrev noted : List Integer → Sum
-noted ps = of (total ps) (any negative ps) (any positive ps) (any (is_fault PosOver) ps) (any (is_fault NegOver) ps) (any (is_fault Unknown) ps) (any barred ps)
-
-onto_noted : (ps : List Integer) (t : Sum) → fold (λ s p. together s (one_part p)) t ps ≡ together t (noted ps)
-onto_noted [] t = sym (together_comm t no_parts ∙ together_none t)
-onto_noted (p ∷ ps) t = onto_noted ps (together t (one_part p)) ∙ together_assoc t (one_part p) (noted ps)
-
-pub tallied_noted : (ps : List Integer) → tallied plus ps ≡ noted ps
-tallied_noted ps = onto_noted ps no_parts ∙ together_none (noted ps)
+noted : (ps : List Integer) → from_last plus ps ≡ record { sum = total ps; negative = any negative ps; positive = any positive ps; notes = notes_in ps }
+noted [] = refl
+noted (p ∷ ps) = ap (together (one_part p)) (noted ps)
 
 pub plus_sums : PlusSums
-plus_sums ps = ap settled (tallied_noted ps)
+plus_sums ps = ap plus.close (tallied-from_last plus_free ps ∙ noted ps)

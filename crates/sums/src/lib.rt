@@ -1,37 +1,25 @@
 // Plus: the exact sum of many integers, whatever their order.
 #![tactic(auto)]
 
+mod notes;
+
 ghost use Rattle.std.specs.Prelude.{◌≡◌};
-ghost use Rattle.sums.specs.Plus.{amount, plus, unsettled};
+ghost use Rattle.sums.specs.Plus.{amount, plus};
 ghost use Rattle.sums.specs.Sums.{PlusSums};
 ghost use Rattle.sums.specs.PlusLaws.{plus_laws};
 
 use merging::Operator;
-use numbers::{Fault, Integer};
+pub use notes::Notes;
+use numbers::Integer;
 
-// The tally of plus: the exact sum of the proper parts, and notes of what occurred. `negative` and
-// `positive` speak of proper parts, `undef` of parts to which no rule of arithmetic applies.
-#[derive(Clone, Copy)]
+// The tally of plus: the exact sum of the proper parts, whether one of them is negative and one positive, and notes of the
+// others.
+#[derive(Clone, Copy, PartialEq, Eq, Debug)]
 pub struct Sum {
     sum: i64,
     negative: bool,
     positive: bool,
-    pos_over: bool,
-    neg_over: bool,
-    unknown: bool,
-    undef: bool,
-}
-
-impl Sum {
-    // Whether an over met what may bring the sum back into range, or a part was unknown.
-    fn is_unsettled(self) -> bool
-        ensures { result ≡ unsettled self }
-    {
-        self.unknown
-            | (self.pos_over & self.neg_over)
-            | (self.pos_over & self.negative)
-            | (self.neg_over & self.positive)
-    }
+    notes: Notes,
 }
 
 pub struct Plus;
@@ -52,10 +40,7 @@ impl Operator for Plus {
             sum: 0,
             negative: false,
             positive: false,
-            pos_over: false,
-            neg_over: false,
-            unknown: false,
-            undef: false,
+            notes: Notes::none(),
         }
     }
 
@@ -65,10 +50,7 @@ impl Operator for Plus {
             sum,
             negative: sum < 0,
             positive: sum > 0,
-            pos_over: part.is_fault(Fault::PosOver),
-            neg_over: part.is_fault(Fault::NegOver),
-            unknown: part.is_fault(Fault::Unknown),
-            undef: part.is_barred(),
+            notes: Notes::of(part),
         }
     }
 
@@ -78,25 +60,14 @@ impl Operator for Plus {
             sum: a.sum.saturating_add(b.sum),
             negative: a.negative | b.negative,
             positive: a.positive | b.positive,
-            pos_over: a.pos_over | b.pos_over,
-            neg_over: a.neg_over | b.neg_over,
-            unknown: a.unknown | b.unknown,
-            undef: a.undef | b.undef,
+            notes: a.notes.join(b.notes),
         }
     }
 
     fn close(tally: Sum) -> Integer {
-        if tally.undef {
-            Integer::Error(Fault::Undef)
-        } else if tally.is_unsettled() {
-            Integer::Error(Fault::Unknown)
-        } else if tally.pos_over {
-            Integer::Error(Fault::PosOver)
-        } else if tally.neg_over {
-            Integer::Error(Fault::NegOver)
-        } else {
-            Integer::judge(tally.sum)
-        }
+        tally
+            .notes
+            .settle(tally.sum, tally.negative, tally.positive)
     }
 }
 
@@ -106,11 +77,11 @@ pub fn plus_stands()
 {}
 
 // What a part adds; an error adds nothing and is noted.
-fn amount(part: Integer) -> i64
+pub fn amount(part: Integer) -> i64
     ensures { result ≡ amount part }
 {
     match part {
-        Integer::Proper(number) => number.wide(),
+        Integer::Proper(number) => i64::from(number),
         Integer::Error(_) => 0,
     }
 }

@@ -1,23 +1,26 @@
-use Rattle.std.proofs.Common.{◌≡◌, length, drop, sym, ap, ◌∙◌, arith}
-use Rattle.std.proofs.lemmas.List.{drop_all}
+use Rattle.std.proofs.Common.{[], ◌∷◌, ◌++◌, sym, ap, ◌∙◌}
+use Rattle.std.proofs.lemmas.List.{append-nil, append_assoc, nil_from_length}
 use Rattle.merging.specs.Operators.{tallied}
 use Rattle.merging.proofs.Steps.{closed, joined_before}
 use Rattle.merging.proofs.orders.merge_backwards.Goals as goal
 
-pub loop-i-init : goal.loop-i-init
-loop-i-init g c =
-    let ps = c.args.parts.now in
-    c.start-sum.ensures ∙ ap (tallied g.O.Operator.is) (sym (drop_all (length ps) ps (omega arith)))
+pub loop-part-init : goal.loop-part-init
+loop-part-init g c = record { later = []; split = cc (append-nil c.args.parts.now); joined = c.start-sum.ensures }
 
-pub loop-i-preserved : goal.loop-i-preserved
-loop-i-preserved g c =
-    joined_before g.met.O.Operator.lawful c.args.parts.now c.loop-i.i c.index-parts-i.result
-    c.join-sum.ensures c.tally.ensures c.loop-i.invariant c.index-parts-i.is (omega arith) (omega arith) (omega arith)
+pub loop-part-preserved : goal.loop-part-preserved
+loop-part-preserved g c =
+    let known = c.loop-part.invariant in
+    let x = c.in-Some.part.now in
+    let others = c.next.new.self.iter.rest.now in
+    let all = known.split ∙ ap (λ ps. ps ++ known.later) c.in-Some.ensures.steps ∙ append_assoc others (x ∷ []) known.later in
+    record {
+      later = x ∷ known.later;
+      split = all;
+      joined = joined_before g.met.O.Operator.lawful others known.later _ x c.join-sum.ensures c.tally.ensures known.joined all c.in_ok-refuse_many.ensures.few;
+    }
 
 pub returns : goal.returns
 returns g c =
-    let d = g.O.Operator.is in
-    let ps = c.args.parts.now in
-    let first : c.loop-i.i ≡ 0 = omega arith in
-    let all = c.loop-i.invariant ∙ ap (λ i. tallied d (drop i ps)) first in
-    record { means = closed d ps c.close.ensures all (omega arith) }
+    let known = c.loop-part.invariant in
+    let all = known.split ∙ ap (λ ps. ps ++ known.later) (nil_from_length _ c.in-None.ensures.steps.0) in
+    record { means = closed g.O.Operator.is c.args.parts.now c.close.ensures (known.joined ∙ ap (tallied g.O.Operator.is) (sym all)) c.in_ok-refuse_many.ensures.few }
