@@ -67,7 +67,7 @@ module _ (a b c d : ℕ) (ha : a < 256) (hb : b < 256) (hc : c < 256) (hd : d < 
       ∙ ap (λ x. a ∷ b ∷ x ∷ from_four a b c d % 256 ∷ []) r
       ∙ ap (λ x. a ∷ b ∷ c ∷ x ∷ []) s
 
-  word_of : word (to_z w32 (from_four a b c d)) ≡ a ∷ b ∷ c ∷ d ∷ []
+  pub word_of : word (to_z w32 (from_four a b c d)) ≡ a ∷ b ∷ c ∷ d ∷ []
   word_of = ap four_bytes (of_z-to_z w32 (from_four a b c d) (omega arith)) ∙ four_of
 
 -- A number from its four bytes.

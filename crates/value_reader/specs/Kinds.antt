@@ -1,5 +1,5 @@
 -- The kinds of records, and the bytes with which records begin.
-use Rattle.std.specs.Prelude.{◌≡◌, ℕ, ◌<◌, ◌⊎◌, Result, MatchResult}
+use Rattle.std.specs.Prelude.{◌≡◌, ℕ, ◌<◌, ◌⊎◌, Bool, true, false, Result, MatchResult}
 use Rattle.value_reader.specs.declared.kind.Kind.{Kind}
 use Rattle.value_reader.specs.declared.kind.Kind.TheVariants.{Boolean, Integer, Error, Array, Record, Union}
 use Rattle.value_reader.specs.declared.kind.UnknownKind.{UnknownKind}
@@ -21,6 +21,15 @@ head_size Error = 2
 head_size Array = 7
 head_size Record = 2
 head_size Union = 2
+
+-- Whether the errors of arithmetic are among the errors of a type of a kind.
+abbrev pub is_arithmetic : Kind → Bool
+is_arithmetic Boolean = false
+is_arithmetic Integer = true
+is_arithmetic Error = false
+is_arithmetic Array = false
+is_arithmetic Record = false
+is_arithmetic Union = false
 
 -- The answer is the kind with this byte, or the byte back where no kind has it.
 abbrev pub Decodes : ℕ → Result Kind UnknownKind → Type 0

@@ -5,8 +5,9 @@ ghost use Rattle.value_reader.specs.Exactness.{Exact, HoldsNumber};
 ghost use Rattle.value_reader.specs.Reading.{read, reads, chosen, repeated, array_at, record_at, union_at, read_number, read_whole};
 
 use crate::bodies::{boolean, integer, is_indexed};
-use crate::bytes::pair_at;
-use crate::heads::{ARRAY, RECORD, UNION, begin};
+use crate::bytes::bytes_at;
+use crate::heads::begin;
+use crate::kind::Kind;
 use values::{Members, Refusal, Row, Types};
 
 // Where the value at `at` of the type with this number ends.
@@ -40,13 +41,13 @@ fn array(types: &Types, bytes: &[u8], at: usize, element: u8) -> Result<usize, R
     requires { element < 2 + length (rows_of types.now) }
     ensures { result ≡ array_at (read (tree_at (rows_of types.now) element) bytes.now) bytes.now at }
 {
-    if let Some(end) = begin(bytes, at, ARRAY, 7, false)? {
+    if let Some(end) = begin(bytes, at, Kind::Array)? {
         return Ok(end);
     }
     if !is_indexed(bytes, at + 1) {
         return Err(Refusal::Strange(at));
     }
-    elements(types, bytes, at + 7, pair_at(bytes, at + 5), element)
+    elements(types, bytes, at + 7, u16::from_be_bytes(bytes_at(bytes, at + 5)), element)
 }
 
 // Where `count` values of the type with this number end.
@@ -79,7 +80,7 @@ fn record(
     requires { (number < 2 + length (rows_of types.now)) × (all_below number (used members) ≡ true) }
     ensures { result ≡ record_at (length (used members)) (reads (trees_of (table (rows_of types.now)) (used members)) bytes.now) bytes.now at }
 {
-    if let Some(end) = begin(bytes, at, RECORD, 2, false)? {
+    if let Some(end) = begin(bytes, at, Kind::Record)? {
         return Ok(end);
     }
     if bytes[at + 1] != members.count() {
@@ -120,7 +121,7 @@ fn union(
     requires { (number < 2 + length (rows_of types.now)) × (all_below number (used constituents) ≡ true) }
     ensures { result ≡ union_at (λ tag. chosen (trees_of (table (rows_of types.now)) (used constituents)) tag bytes.now) bytes.now at }
 {
-    if let Some(end) = begin(bytes, at, UNION, 2, false)? {
+    if let Some(end) = begin(bytes, at, Kind::Union)? {
         return Ok(end);
     }
     match constituents.get(bytes[at + 1]) {
