@@ -1,14 +1,21 @@
 -- Scalars that stand in bytes: a kind byte and a body.
-use Rattle.std.proofs.Common.{◌≡◌, ℕ, zero, suc, ◌+◌, ◌<◌, ◌≤◌, Bool, true, false, ltb, leb, eqb, ◌⊎◌, List, [], ◌∷◌, length, get_or, take, drop, ℤ, negsuc, Some, None, Option, sym, refl, ap, ◌∙◌, inl, inr, arith, subst, w8, w32, to_z, Fits, MatchOption}
+use Rattle.std.proofs.Common.{◌≡◌, ℕ, zero, suc, ◌+◌, ◌<◌, ◌≤◌, Bool, true, false, ltb, leb, eqb, ◌⊎◌, List, [], ◌∷◌, length, get_or, take, drop, ℤ, negsuc, Some, None, Ok, Err, Option, Result, sym, refl, ap, ◌∙◌, inl, inr, arith, subst, w8, w32, to_z, Fits, MatchOption}
 use borrow.Author.Differences.{ints}
+use mir.Val.{bool_byte}
 use Rattle.std.proofs.lemmas.Bool.Decides.{nat_tests}
 use Rattle.std.proofs.lemmas.Bool.{and_from, and_parts, leb-true, eqb-true, lt-ltb, le-leb, eq-eqb, false≢true}
 use Rattle.numbers.specs.declared.number.Number.{Number}
 use Rattle.numbers.specs.declared.fault.Fault.{Fault}
 use Rattle.numbers.specs.declared.fault.Fault.TheVariants.{Undef, MissElt, PosOver, NegOver, Unknown, ZeroDivide}
-use Rattle.numbers.specs.Faults.{code_of, of_code}
+use Rattle.numbers.specs.declared.integer.Integer.{Integer}
+use Rattle.numbers.specs.declared.integer.Integer.TheVariants as integers
+use Rattle.numbers.specs.declared.boolean.Boolean.{Boolean}
+use Rattle.numbers.specs.declared.boolean.Boolean.TheVariants as booleans
+use Rattle.std.specs.Result.{result_ok}
+use Rattle.numbers.specs.declared.fault.UnknownCode.{UnknownCode}
+use Rattle.numbers.specs.Faults.{code_of, of_code, basic_of, Decodes}
 use Rattle.numbers.proofs.Same.{same_number}
-use Rattle.values.specs.Values.{Value, boolean, integer, error, size, encode, word, bit}
+use Rattle.values.specs.Values.{Value, boolean, integer, error, size, encode, word, bit, integer_value, boolean_value}
 use Rattle.values.proofs.Prefixes.{from_four, word_back}
 use Rattle.value_reader.specs.Bytes.{byte}
 use Rattle.value_reader.specs.Exactness.{Stands}
@@ -128,3 +135,77 @@ fault_unbegun bs at h = finds_unbegun error 0x52 1 (λ f. code_of f ∷ []) faul
 
 pub fault_found : (bs : List ℕ) (at : ℕ) → begins 0x52 2 bs at ≡ true → (r : Option Fault) → Parses (λ f. code_of f ∷ []) (take 1 (drop (at + 1) bs)) r → Finds error bs at r
 fault_found bs at b r h = finds_body error 0x52 1 (λ f. code_of f ∷ []) fault_made fault_sized bs at b r h
+
+-- One byte.
+pub alone : (xs : List ℕ) (n : ℕ) → 1 ≤ length xs → length xs < 2 → get_or xs 0 0 ≡ n → xs ≡ n ∷ []
+alone [] n some few e = absurd (let y : ⊥ = omega (arith, some) in y)
+alone (x ∷ []) n some few e = ap (λ x. x ∷ []) e
+alone (x ∷ y ∷ xs) n some few e = absurd (let z : ⊥ = omega (arith, few) in z)
+
+pub byte_is : (b : Bool) → bool_byte b ≡ bit b
+byte_is true = refl
+byte_is false = refl
+
+pub parses_truth : (b : Bool) (xs : List ℕ) → xs ≡ bit b ∷ [] → Parses (λ b. bit b ∷ []) xs (Some b)
+parses_truth b xs e x = ((λ k. let same : b ≡ x = cc in e ∙ ap (λ b. bit b ∷ []) same), (λ k. ap Some (same_bit b x (let z : bit b ≡ bit x = cc in z))))
+  where
+    same_bit : (a b : Bool) → bit a ≡ bit b → a ≡ b
+    same_bit true true e = refl
+    same_bit true false e = absurd (let y : ⊥ = omega arith in y)
+    same_bit false true e = absurd (let y : ⊥ = omega arith in y)
+    same_bit false false e = refl
+
+pub parses_no_truth : (xs : List ℕ) → (xs ≡ 0 ∷ [] → ⊥) → (xs ≡ 1 ∷ [] → ⊥) → Parses (λ b. bit b ∷ []) xs None
+parses_no_truth xs p q true = ((λ k. absurd (let y : ⊥ = cc in y)), (λ k. absurd (q k)))
+parses_no_truth xs p q false = ((λ k. absurd (let y : ⊥ = cc in y)), (λ k. absurd (p k)))
+
+code_back : (f : Fault) → of_code (code_of f) ≡ Some f
+code_back Undef = refl
+code_back MissElt = refl
+code_back PosOver = refl
+code_back NegOver = refl
+code_back Unknown = refl
+code_back ZeroDivide = refl
+
+code_is : (n : ℕ) (f : Fault) → of_code n ≡ Some f → n ≡ code_of f
+code_is n Undef e = grind (arith, nat_tests)
+code_is n MissElt e = grind (arith, nat_tests)
+code_is n PosOver e = grind (arith, nat_tests)
+code_is n NegOver e = grind (arith, nat_tests)
+code_is n Unknown e = grind (arith, nat_tests)
+code_is n ZeroDivide e = grind (arith, nat_tests)
+
+pub parses_fault : (n : ℕ) (xs : List ℕ) (t : Result Fault UnknownCode) → xs ≡ n ∷ [] → Decodes n t → Parses (λ f. code_of f ∷ []) xs (result_ok t)
+parses_fault n xs (Ok g) e d f = (
+  (λ h. let same : g ≡ f = cc in e ∙ ap (λ n. n ∷ []) (code_is n f (d ∙ ap Some same))),
+  (λ h. let z : n ≡ code_of f = cc in sym d ∙ ap of_code z ∙ code_back f),
+)
+parses_fault n xs (Err u) e d f = (
+  (λ h. absurd (let y : ⊥ = cc in y)),
+  (λ h. let z : n ≡ code_of f = cc in sym d.0 ∙ ap of_code z ∙ code_back f),
+)
+
+-- A value of one kind is none of another.
+module _ (bs : List ℕ) (at : ℕ) where
+  number_kind : (n : Number) → Stands bs at (at + size (integer n)) (integer n) → byte bs at ≡ 0x51
+  number_kind n s = (begun 0x51 5 bs at (record_there integer 0x51 4 (λ n. word n.value) number_made number_sized bs at n s).0).1
+
+  truth_kind : (b : Bool) → Stands bs at (at + size (boolean b)) (boolean b) → byte bs at ≡ 0x50
+  truth_kind b s = (begun 0x50 2 bs at (record_there boolean 0x50 1 (λ b. bit b ∷ []) truth_made truth_sized bs at b s).0).1
+
+  fault_kind : (f : Fault) → Stands bs at (at + size (error f)) (error f) → byte bs at ≡ 0x52
+  fault_kind f s = (begun 0x52 2 bs at (record_there error 0x52 1 (λ f. code_of f ∷ []) fault_made fault_sized bs at f s).0).1
+
+  pub number_only : (n : Number) → Finds integer bs at (Some n) → Finds integer_value bs at (Some (integers.Proper n))
+  number_only n h (integers.Proper m) = ((λ e. (h m).0 (let k : Some n ≡ Some m = cc in k)), (λ s. let k : Some n ≡ Some m = (h m).1 s in cc))
+  number_only n h (integers.Error f) = (
+    (λ e. absurd (let y : ⊥ = cc in y)),
+    (λ s. absurd (let y : ⊥ = omega (arith, number_kind n ((h n).0 refl), fault_kind f s) in y)),
+  )
+
+  pub truth_only : (b : Bool) → Finds boolean bs at (Some b) → Finds boolean_value bs at (Some (booleans.Proper b))
+  truth_only b h (booleans.Proper c) = ((λ e. (h c).0 (let k : Some b ≡ Some c = cc in k)), (λ s. let k : Some b ≡ Some c = (h c).1 s in cc))
+  truth_only b h (booleans.Error f) = (
+    (λ e. absurd (let y : ⊥ = cc in y)),
+    (λ s. absurd (let y : ⊥ = omega (arith, truth_kind b ((h b).0 refl), fault_kind (basic_of f) s) in y)),
+  )

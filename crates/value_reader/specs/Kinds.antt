@@ -1,5 +1,7 @@
 -- The kinds of records, and the bytes with which records begin.
 use Rattle.std.specs.Prelude.{◌≡◌, ℕ, ◌<◌, ◌⊎◌, Bool, true, false, Result, MatchResult}
+use Rattle.numbers.specs.declared.fault.Fault.{Fault}
+use Rattle.values.specs.Trees.{Basic}
 use Rattle.value_reader.specs.declared.kind.Kind.{Kind}
 use Rattle.value_reader.specs.declared.kind.Kind.TheVariants.{Boolean, Integer, Error, Array, Record, Union}
 use Rattle.value_reader.specs.declared.kind.UnknownKind.{UnknownKind}
@@ -30,6 +32,10 @@ is_arithmetic Error = false
 is_arithmetic Array = false
 is_arithmetic Record = false
 is_arithmetic Union = false
+
+-- The error values of a type of a kind.
+abbrev pub ErrorOf : Kind → Fault → Type 0
+ErrorOf kind fault = (kind ≡ Integer) ⊎ Basic fault
 
 -- The answer is the kind with this byte, or the byte back where no kind has it.
 abbrev pub Decodes : ℕ → Result Kind UnknownKind → Type 0

@@ -1,5 +1,5 @@
 ghost use Rattle.std.specs.Prelude.{◌≡◌, ℕ, ◌+◌, ◌≤◌, Bool, true, length};
-ghost use Rattle.value_reader.specs.Reading.{boolean_at, integer_at, indexed_at};
+ghost use Rattle.value_reader.specs.Reading.{boolean_at, integer_at, indexed_at, ranged};
 
 use crate::bytes::bytes_at;
 use crate::heads::begin;
@@ -34,17 +34,21 @@ pub(crate) fn integer(bytes: &[u8], at: usize) -> Result<usize, Refusal>
     }
 }
 
-// Whether the body of an array stands at `at`: a proper low index, which is 1 where there are no elements, and a
-// highest index of at most 2147483647.
+// Whether the body of an array stands at `at`: a proper low index and a number of elements that go together.
 pub(crate) fn is_indexed(bytes: &[u8], at: usize) -> bool
     requires { at + 6 ≤ length bytes.now }
     ensures { result ≡ indexed_at bytes.now at }
 {
     let low = i32::from_be_bytes(bytes_at(bytes, at));
     let count = u16::from_be_bytes(bytes_at(bytes, at + 4));
-    if low == i32::MIN {
-        return false;
-    }
+    low != i32::MIN && is_ranged(low, count)
+}
+
+// Whether so many elements may begin at a low index: it is 1 where there are none, and the highest index is at most
+// 2147483647.
+fn is_ranged(low: i32, count: u16) -> bool
+    ensures { result ≡ ranged low count }
+{
     if count == 0 && low != 1 {
         return false;
     }

@@ -3,6 +3,7 @@ ghost use Rattle.value_reader.specs.Kinds.{code_of, head_size, is_arithmetic};
 ghost use Rattle.value_reader.specs.Reading.{fault_at, opens};
 
 use crate::kind::Kind;
+use numbers::Fault;
 use values::Refusal;
 
 // The error value at `at`, of a type of this kind: where it ends.
@@ -13,12 +14,9 @@ fn fault(bytes: &[u8], at: usize, own: Kind) -> Result<Option<usize>, Refusal>
     if bytes.len() - at < 2 {
         return Err(Refusal::Cut(at));
     }
-    let code = bytes[at + 1];
-    let last = if own == Kind::Integer { 6 } else { 2 };
-    if code >= 1 && code <= last {
-        Ok(Some(at + 2))
-    } else {
-        Err(Refusal::Clash(at))
+    match Fault::try_from(bytes[at + 1]) {
+        Ok(fault) if own.admits(fault) => Ok(Some(at + 2)),
+        _ => Err(Refusal::Clash(at)),
     }
 }
 

@@ -1,15 +1,19 @@
-ghost use Rattle.std.specs.Prelude.{◌≡◌};
-ghost use Rattle.value_reader.specs.Kinds.{code_of, head_size, Decodes};
+ghost use Rattle.std.specs.Prelude.{◌≡◌, ◌↔◌, IsTrue};
+ghost use Rattle.value_reader.specs.Kinds.{code_of, head_size, ErrorOf, Decodes};
 
-// What a record is, which its first byte says.
+use numbers::{BasicFault, Fault};
+use std::error::Error;
+use std::fmt;
+
+// What a record is, with the byte that it begins with.
 #[derive(Clone, Copy, Debug, PartialEq, Eq)]
 pub enum Kind {
-    Boolean,
-    Integer,
-    Error,
-    Array,
-    Record,
-    Union,
+    Boolean = 0x50,
+    Integer = 0x51,
+    Error = 0x52,
+    Array = 0x53,
+    Record = 0x54,
+    Union = 0x55,
 }
 
 // A byte with which no record begins.
@@ -17,6 +21,13 @@ pub enum Kind {
 pub struct UnknownKind(pub u8);
 
 impl Kind {
+    // Whether a value of a type of this kind may be this error: the errors of arithmetic are integers' alone.
+    pub fn admits(self, fault: Fault) -> bool
+        ensures { IsTrue result ↔ ErrorOf self fault }
+    {
+        self == Kind::Integer || BasicFault::try_from(fault).is_ok()
+    }
+
     // How many bytes a record of this kind takes before the values that stand in it.
     pub fn head_size(self) -> usize
         ensures { result ≡ head_size self }
@@ -33,14 +44,7 @@ impl From<Kind> for u8 {
     ghost from_gives = { λ kind code. code ≡ code_of kind };
 
     fn from(kind: Kind) -> u8 {
-        match kind {
-            Kind::Boolean => 0x50,
-            Kind::Integer => 0x51,
-            Kind::Error => 0x52,
-            Kind::Array => 0x53,
-            Kind::Record => 0x54,
-            Kind::Union => 0x55,
-        }
+        kind as u8
     }
 }
 
@@ -61,3 +65,11 @@ impl TryFrom<u8> for Kind {
         }
     }
 }
+
+impl fmt::Display for UnknownKind {
+    fn fmt<W: fmt::Write>(&self, f: &mut fmt::Formatter<W>) -> fmt::Result {
+        write!(f, "no record begins with the byte {}", self.0)
+    }
+}
+
+impl Error for UnknownKind {}

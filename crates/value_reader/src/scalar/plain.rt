@@ -1,12 +1,12 @@
 ghost use Rattle.std.specs.Prelude.{◌≡◌, ◌-◌, ◌+◌, true, false, take, drop, MatchOption};
 ghost use Rattle.values.specs.Values.{integer, boolean, error};
 ghost use Rattle.value_reader.specs.Kinds.{code_of, head_size};
-ghost use Rattle.value_reader.specs.Scalars.{begins};
+ghost use Rattle.value_reader.specs.Scalars.{begins, basic_error};
 
 use crate::bytes::lay_bytes;
 use crate::kind::Kind;
 use crate::scalar::Scalar;
-use numbers::{Fault, Number};
+use numbers::{BasicFault, Fault, Number};
 
 // The body of the record at `at`, if it is of this kind and whole.
 fn body(bytes: &[u8], at: usize, kind: Kind) -> Option<&[u8]>
@@ -54,10 +54,25 @@ impl Scalar for Fault {
     ghost value = { error };
 
     fn read(bytes: &[u8], at: usize) -> Option<Fault> {
-        Fault::from_code(*body(bytes, at, Kind::Error)?.first()?)
+        let &[code] = body(bytes, at, Kind::Error)? else {
+            return None;
+        };
+        Fault::try_from(code).ok()
     }
 
     fn write(self, bytes: &mut [u8], at: usize) -> Option<usize> {
-        lay_bytes(bytes, at, &[Kind::Error.into(), self.code()])
+        lay_bytes(bytes, at, &[Kind::Error.into(), self.into()])
+    }
+}
+
+impl Scalar for BasicFault {
+    ghost value = { basic_error };
+
+    fn read(bytes: &[u8], at: usize) -> Option<BasicFault> {
+        BasicFault::try_from(Fault::read(bytes, at)?).ok()
+    }
+
+    fn write(self, bytes: &mut [u8], at: usize) -> Option<usize> {
+        Fault::from(self).write(bytes, at)
     }
 }
