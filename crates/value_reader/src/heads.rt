@@ -1,4 +1,4 @@
-ghost use Rattle.std.specs.Prelude.{◌≡◌, ℕ, ◌+◌, ◌<◌, ◌≤◌, length, None, Ok};
+ghost use Rattle.std.specs.Prelude.{◌≡◌, ℕ, ◌+◌, ◌<◌, ◌≤◌, length, Some, None, Ok, Err, MatchResult};
 ghost use Rattle.value_reader.specs.Kinds.{code_of, head_size, is_arithmetic};
 ghost use Rattle.value_reader.specs.Reading.{fault_at, opens};
 
@@ -7,15 +7,15 @@ use numbers::Fault;
 use values::Refusal;
 
 // The error value at `at`, of a type of this kind: where it ends.
-fn fault(bytes: &[u8], at: usize, own: Kind) -> Result<Option<usize>, Refusal>
+fn fault(bytes: &[u8], at: usize, own: Kind) -> Result<usize, Refusal>
     requires { at < length bytes.now }
-    ensures { result ≡ fault_at (is_arithmetic own) bytes.now at }
+    ensures { MatchResult result (λ end. fault_at (is_arithmetic own) bytes.now at ≡ Ok (Some end)) (λ e. fault_at (is_arithmetic own) bytes.now at ≡ Err e) }
 {
     if bytes.len() - at < 2 {
         return Err(Refusal::Cut(at));
     }
     match Fault::try_from(bytes[at + 1]) {
-        Ok(fault) if own.admits(fault) => Ok(Some(at + 2)),
+        Ok(fault) if own.admits(fault) => Ok(at + 2),
         _ => Err(Refusal::Clash(at)),
     }
 }
@@ -31,7 +31,7 @@ pub(crate) fn begin(bytes: &[u8], at: usize, own: Kind) -> Result<Option<usize>,
     }
     let kind = Kind::try_from(bytes[at]).map_err(|_| Refusal::Clash(at))?;
     if kind == Kind::Error {
-        return fault(bytes, at, own);
+        return Ok(Some(fault(bytes, at, own)?));
     }
     if kind != own {
         return Err(Refusal::Clash(at));

@@ -16,10 +16,7 @@ pub(crate) struct Head {
 fn head_at(bytes: &[u8], at: usize) -> Option<Head>
     ensures { result ≡ head_at bytes.now at }
 {
-    if at >= bytes.len() {
-        return None;
-    }
-    let kind = Kind::try_from(bytes[at]).ok()?;
+    let kind = Kind::try_from(*bytes.get(at)?).ok()?;
     let long = kind.head_size();
     if bytes.len() - at < long {
         return None;
