@@ -1,5 +1,5 @@
 -- Scalars that stand in bytes: a kind byte and a body.
-use Rattle.std.proofs.Common.{◌≡◌, ℕ, zero, suc, ◌+◌, ◌<◌, ◌≤◌, Bool, true, false, ltb, leb, eqb, ◌⊎◌, List, [], ◌∷◌, length, get_or, take, drop, ℤ, negsuc, Some, None, Ok, Err, Option, Result, sym, refl, ap, ◌∙◌, inl, inr, arith, subst, w8, w32, to_z, Fits, MatchOption}
+use Rattle.std.proofs.Common.{◌≡◌, ℕ, suc, ◌+◌, ◌<◌, ◌≤◌, Bool, true, false, ltb, leb, eqb, List, [], ◌∷◌, length, get_or, take, drop, ℤ, negsuc, Some, None, Ok, Err, Option, Result, sym, refl, ap, ◌∙◌, arith, subst, w8, w32, to_z, Fits, MatchOption}
 use borrow.Author.Differences.{ints}
 use mir.Val.{bool_byte}
 use Rattle.std.proofs.lemmas.Bool.Decides.{nat_tests}
@@ -7,9 +7,7 @@ use Rattle.std.proofs.lemmas.Bool.{and_from, and_parts, leb-true, eqb-true, lt-l
 use Rattle.numbers.specs.declared.number.Number.{Number}
 use Rattle.numbers.specs.declared.fault.Fault.{Fault}
 use Rattle.numbers.specs.declared.fault.Fault.TheVariants.{Undef, MissElt, PosOver, NegOver, Unknown, ZeroDivide}
-use Rattle.numbers.specs.declared.integer.Integer.{Integer}
 use Rattle.numbers.specs.declared.integer.Integer.TheVariants as integers
-use Rattle.numbers.specs.declared.boolean.Boolean.{Boolean}
 use Rattle.numbers.specs.declared.boolean.Boolean.TheVariants as booleans
 use Rattle.std.specs.Result.{result_ok}
 use Rattle.numbers.specs.declared.fault.UnknownCode.{UnknownCode}
@@ -142,9 +140,12 @@ alone [] n some few e = absurd (let y : ⊥ = omega (arith, some) in y)
 alone (x ∷ []) n some few e = ap (λ x. x ∷ []) e
 alone (x ∷ y ∷ xs) n some few e = absurd (let z : ⊥ = omega (arith, few) in z)
 
-pub byte_is : (b : Bool) → bool_byte b ≡ bit b
+byte_is : (b : Bool) → bool_byte b ≡ bit b
 byte_is true = refl
 byte_is false = refl
+
+pub truth_bytes : (b : Bool) → 0x50 ∷ bool_byte b ∷ [] ≡ encode (boolean b)
+truth_bytes b = ap (λ n. 0x50 ∷ n ∷ []) (byte_is b) ∙ sym (truth_made b)
 
 pub parses_truth : (b : Bool) (xs : List ℕ) → xs ≡ bit b ∷ [] → Parses (λ b. bit b ∷ []) xs (Some b)
 parses_truth b xs e x = ((λ k. let same : b ≡ x = cc in e ∙ ap (λ b. bit b ∷ []) same), (λ k. ap Some (same_bit b x (let z : bit b ≡ bit x = cc in z))))

@@ -9,7 +9,9 @@ use values::Refusal;
 // The error value at `at`, of a type of this kind: where it ends.
 fn fault(bytes: &[u8], at: usize, own: Kind) -> Result<usize, Refusal>
     requires { at < length bytes.now }
-    ensures { MatchResult result (λ end. fault_at (is_arithmetic own) bytes.now at ≡ Ok (Some end)) (λ e. fault_at (is_arithmetic own) bytes.now at ≡ Err e) }
+    ensures { MatchResult result
+        (λ end. fault_at (is_arithmetic own) bytes.now at ≡ Ok (Some end))
+        (λ refusal. fault_at (is_arithmetic own) bytes.now at ≡ Err refusal) }
 {
     if bytes.len() - at < 2 {
         return Err(Refusal::Cut(at));

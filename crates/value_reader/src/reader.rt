@@ -10,81 +10,69 @@ use crate::heads::begin;
 use crate::kind::Kind;
 use values::{Members, Refusal, Row, Types};
 
-// Bytes that are read as values of a type of a table.
+// A table of types, and bytes that are read as values of its types. Offsets count from the front of all the bytes, since
+// refusals name them: readers of what is left would have to carry the count besides.
+#[derive(Clone, Copy)]
+struct Source<'a> {
+    types: &'a Types,
+    bytes: &'a [u8],
+}
+
+// Reads values of the type with this number.
 #[derive(Clone, Copy)]
 struct Reader<'a> {
-    types: &'a Types,
-    bytes: &'a [u8],
+    source: Source<'a>,
     number: u8,
-    ghost declared: { number < 2 + length (rows_of types.now) },
+    ghost declared: { number < 2 + length (rows_of source.types.now) },
 }
 
-// Bytes that are read as values of the types of a row's parts, which have lower numbers than the row.
+// Reads the parts of values of a type, which are of types with lower numbers.
 #[derive(Clone, Copy)]
 struct Parts<'a> {
-    types: &'a Types,
-    bytes: &'a [u8],
-    number: u8,
+    whole: Reader<'a>,
     members: Members,
-    ghost declared: { number < 2 + length (rows_of types.now) },
-    ghost lower: { all_below number (used members) ≡ true },
+    ghost lower: { all_below whole.number (used members) ≡ true },
 }
 
-impl<'a> Reader<'a> {
+impl Reader<'_> {
     // Where the value at `at` ends.
     #[cycle(parts_of_values)]
     fn value(&self, at: usize) -> Result<usize, Refusal>
-        ensures { result ≡ read (tree_at (rows_of self.now.types.now) self.now.number) self.now.bytes.now at }
+        ensures { result ≡ read (tree_at (rows_of self.now.source.types.now) self.now.number) self.now.source.bytes.now at }
     {
-        let Reader {
-            types,
-            bytes,
-            number,
-        } = *self;
-        match types.row(number) {
-            Some(Row::Array(element)) => Reader {
-                types,
-                bytes,
-                number: element,
-            }
-            .array(at),
-            Some(Row::Record(members)) => Parts {
-                types,
-                bytes,
-                number,
-                members,
-            }
-            .record(at),
-            Some(Row::Union(members)) => Parts {
-                types,
-                bytes,
-                number,
-                members,
-            }
-            .union(at),
-            None if number == 0 => boolean(bytes, at),
-            None => integer(bytes, at),
+        let whole = *self;
+        let source = whole.source;
+        match source.types.row(whole.number) {
+            Some(Row::Array(number)) => Reader { source, number }.array(at),
+            Some(Row::Record(members)) => Parts { whole, members }.record(at),
+            Some(Row::Union(members)) => Parts { whole, members }.union(at),
+            None if whole.number == 0 => boolean(source.bytes, at),
+            None => integer(source.bytes, at),
         }
     }
 
     // Where the array at `at` ends, whose elements are of the type.
     #[cycle(parts_of_values)]
     fn array(&self, at: usize) -> Result<usize, Refusal>
-        ensures { result ≡ array_at (read (tree_at (rows_of self.now.types.now) self.now.number) self.now.bytes.now) self.now.bytes.now at }
+        ensures { result
+            ≡ array_at (read (tree_at (rows_of self.now.source.types.now) self.now.number) self.now.source.bytes.now)
+            self.now.source.bytes.now at }
     {
-        if let Some(end) = begin(self.bytes, at, Kind::Array)? {
+        let bytes = self.source.bytes;
+        if let Some(end) = begin(bytes, at, Kind::Array)? {
             return Ok(end);
         }
-        if !is_indexed(self.bytes, at + 1) {
+        if !is_indexed(bytes, at + 1) {
             return Err(Refusal::Strange(at));
         }
-        self.values(at + 7, u16::from_be_bytes(bytes_at(self.bytes, at + 5)))
+        self.values(at + 7, u16::from_be_bytes(bytes_at(bytes, at + 5)))
     }
 
     // Where `count` values end, one behind the other.
     #[cycle(parts_of_values)]
     fn values(&self, at: usize, count: u16) -> Result<usize, Refusal>
-        ensures { result ≡ repeated count (read (tree_at (rows_of self.now.types.now) self.now.number) self.now.bytes.now) at }
+        ensures { result
+            ≡ repeated count (read (tree_at (rows_of self.now.source.types.now) self.now.number) self.now.source.bytes.now) at }
     {
         let mut end = at;
         for _ in 0..count {
@@ -94,15 +82,19 @@ impl<'a> Reader<'a> {
     }
 }
 
-impl<'a> Parts<'a> {
+impl Parts<'_> {
     #[cycle(parts_of_values)]
     fn record(&self, at: usize) -> Result<usize, Refusal>
-        ensures { result ≡ record_at (length (used self.now.members)) (reads (trees_of (table (rows_of self.now.types.now)) (used self.now.members)) self.now.bytes.now) self.now.bytes.now at }
+        ensures { result
+            ≡ record_at (length (used self.now.members))
+            (reads (trees_of (table (rows_of self.now.whole.source.types.now)) (used self.now.members)) self.now.whole.source.bytes.now)
+            self.now.whole.source.bytes.now at }
     {
-        if let Some(end) = begin(self.bytes, at, Kind::Record)? {
+        let bytes = self.whole.source.bytes;
+        if let Some(end) = begin(bytes, at, Kind::Record)? {
             return Ok(end);
         }
-        if self.bytes[at + 1] != self.members.count() {
+        if bytes[at + 1] != self.members.count() {
             return Err(Refusal::Clash(at));
         }
         self.values(at + 2)
@@ -111,46 +103,31 @@ impl<'a> Parts<'a> {
     // Where values of the members' types end, one behind the other.
     #[cycle(parts_of_values)]
     fn values(&self, at: usize) -> Result<usize, Refusal>
-        ensures { result ≡ reads (trees_of (table (rows_of self.now.types.now)) (used self.now.members)) self.now.bytes.now at }
+        ensures { result
+            ≡ reads (trees_of (table (rows_of self.now.whole.source.types.now)) (used self.now.members)) self.now.whole.source.bytes.now at }
     {
-        let Parts {
-            types,
-            bytes,
-            members,
-            ..
-        } = *self;
+        let source = self.whole.source;
         let mut end = at;
-        for &number in members.as_slice() {
-            end = Reader {
-                types,
-                bytes,
-                number,
-            }
-            .value(end)?;
+        for &number in self.members.as_slice() {
+            end = Reader { source, number }.value(end)?;
         }
         Ok(end)
     }
 
     #[cycle(parts_of_values)]
     fn union(&self, at: usize) -> Result<usize, Refusal>
-        ensures { result ≡ union_at (λ tag. chosen (trees_of (table (rows_of self.now.types.now)) (used self.now.members)) tag self.now.bytes.now) self.now.bytes.now at }
+        ensures { result
+            ≡ union_at
+            (λ tag. chosen (trees_of (table (rows_of self.now.whole.source.types.now)) (used self.now.members)) tag self.now.whole.source.bytes.now)
+            self.now.whole.source.bytes.now at }
     {
-        let Parts {
-            types,
-            bytes,
-            members,
-            ..
-        } = *self;
+        let bytes = self.whole.source.bytes;
         if let Some(end) = begin(bytes, at, Kind::Union)? {
             return Ok(end);
         }
-        match members.get(bytes[at + 1]) {
-            Some(number) => Reader {
-                types,
-                bytes,
-                number,
-            }
-            .value(at + 2),
+        let source = self.whole.source;
+        match self.members.get(bytes[at + 1]) {
+            Some(number) => Reader { source, number }.value(at + 2),
             None => Err(Refusal::Clash(at)),
         }
     }
@@ -164,12 +141,8 @@ pub fn read_value(types: &Types, bytes: &[u8], at: usize, number: u8) -> Result<
     if number as usize >= types.len() + 2 {
         return Err(Refusal::Undeclared(0));
     }
-    Reader {
-        types,
-        bytes,
-        number,
-    }
-    .value(at)
+    let source = Source { types, bytes };
+    Reader { source, number }.value(at)
 }
 
 // The same of bytes that are one value and no more.

@@ -10,7 +10,9 @@ use numbers::{BasicFault, Fault, Number};
 
 // The body of the record at `at`, if it is of this kind and whole.
 fn body(bytes: &[u8], at: usize, kind: Kind) -> Option<&[u8]>
-    ensures { MatchOption result (begins (code_of kind) (head_size kind) bytes.now at ≡ false) (λ body. (begins (code_of kind) (head_size kind) bytes.now at ≡ true) × (body.now ≡ take (head_size kind - 1) (drop (at + 1) bytes.now))) }
+    ensures { MatchOption result (begins (code_of kind) (head_size kind) bytes.now at ≡ false) (λ body.
+        (begins (code_of kind) (head_size kind) bytes.now at ≡ true)
+        × (body.now ≡ take (head_size kind - 1) (drop (at + 1) bytes.now))) }
 {
     if at >= bytes.len() || bytes.len() - at < kind.head_size() || bytes[at] != u8::from(kind) {
         return None;
@@ -38,9 +40,12 @@ impl Scalar for bool {
     ghost value = { boolean };
 
     fn read(bytes: &[u8], at: usize) -> Option<bool> {
-        match body(bytes, at, Kind::Boolean)? {
-            [0] => Some(false),
-            [1] => Some(true),
+        let &[truth] = body(bytes, at, Kind::Boolean)? else {
+            return None;
+        };
+        match truth {
+            0 => Some(false),
+            1 => Some(true),
             _ => None,
         }
     }

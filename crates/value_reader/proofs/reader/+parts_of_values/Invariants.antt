@@ -15,21 +15,21 @@ abbrev pub decreases-Reader::values : goal.decreases-Reader::values
 decreases-Reader::values l = 4 * l.self.now.number + 4
 
 abbrev pub decreases-Parts::record : goal.decreases-Parts::record
-decreases-Parts::record l = 4 * l.self.now.number + 1
+decreases-Parts::record l = 4 * l.self.now.whole.number + 1
 
 abbrev pub decreases-Parts::values : goal.decreases-Parts::values
-decreases-Parts::values l = 4 * l.self.now.number
+decreases-Parts::values l = 4 * l.self.now.whole.number
 
 abbrev pub decreases-Parts::union : goal.decreases-Parts::union
-decreases-Parts::union l = 4 * l.self.now.number + 1
+decreases-Parts::union l = 4 * l.self.now.whole.number + 1
 
 -- What is left to read gives what the whole gives.
 abbrev pub invariant-Reader::values-loop : goal.invariant-Reader::values-loop
 invariant-Reader::values-loop l =
-    repeated (l.count - l.counter) (read (tree_at (rows_of l.self.types.now) l.self.number) l.self.bytes.now) l.end
-    ≡ repeated l.count (read (tree_at (rows_of l.self.types.now) l.self.number) l.self.bytes.now) l.at
+    repeated (l.count - l.counter) (read (tree_at (rows_of l.self.source.types.now) l.self.number) l.self.source.bytes.now) l.end
+    ≡ repeated l.count (read (tree_at (rows_of l.self.source.types.now) l.self.number) l.self.source.bytes.now) l.at
 
 abbrev pub invariant-Parts::values-loop-number : goal.invariant-Parts::values-loop-number
 invariant-Parts::values-loop-number l =
-    reads (trees_of (table (rows_of l.types)) (drop l.number-index l.number-items)) l.bytes l.end
-    ≡ reads (trees_of (table (rows_of l.types)) (used l.self.members)) l.bytes l.at
+    reads (trees_of (table (rows_of l.source.types.now)) (drop l.number-index l.number-items)) l.source.bytes.now l.end
+    ≡ reads (trees_of (table (rows_of l.source.types.now)) (used l.self.members)) l.source.bytes.now l.at
