@@ -1,5 +1,4 @@
-ghost use Rattle.std.specs.Prelude.{◌≡◌, ◌<◌, Some, codes, IfSome, MatchResult};
-ghost use Rattle.std.specs.Str.{bytes_eq};
+ghost use Rattle.std.specs.Prelude.{◌≡◌, ◌<◌, Some, IfSome, MatchResult};
 ghost use Rattle.value_text.specs.Hex.{digit_value, byte_of, hex, hex_text, Refuses};
 
 use crate::problem::Problem;
@@ -9,17 +8,11 @@ use std::alloc::Global;
 pub fn parse_bytes(heap: Global, text: &str) -> Result<Vec<u8>, Problem>
     ensures { MatchResult result (λ v. hex_text text.now ≡ Some v.items) (λ e. Refuses e (hex_text text.now)) }
 {
-    if is_dash(text) {
+    if text == "-" {
         Ok(Vec::new(heap))
     } else {
         digits_to_bytes(heap, text.as_bytes())
     }
-}
-
-fn is_dash(text: &str) -> bool
-    ensures { result ≡ bytes_eq text.now (codes "-") }
-{
-    text == "-"
 }
 
 fn digits_to_bytes(heap: Global, digits: &[u8]) -> Result<Vec<u8>, Problem>
