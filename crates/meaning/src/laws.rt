@@ -16,7 +16,7 @@ pub fn parts_stand()
 
 // Every order and grouping gives the same outcome, for every six operators.
 pub fn grouping_stands<S: Operators>()
-    ensures { GroupingIsFree S.Operators.merges (six S.Plus.Operator.is S.Times.Operator.is S.Max.Operator.is S.Min.Operator.is S.And.Operator.is S.Or.Operator.is) }
+    ensures { GroupingIsFree S.merges (six S.Plus.is S.Times.is S.Max.is S.Min.is S.And.is S.Or.is) }
 {}
 
 // A greater budget changes nothing once a run is finished or full.

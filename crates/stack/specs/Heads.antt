@@ -1,6 +1,8 @@
 -- The bytes of a composed value before its parts.
 use Rattle.std.specs.Prelude.{◌≡◌, ℕ, List, [], ◌∷◌, ◌++◌, length}
 use Rattle.numbers.specs.declared.number.Number.{Number}
+use Rattle.stack.specs.declared.heads.Head.{Head}
+use Rattle.stack.specs.declared.heads.Head.TheVariants.{Array, Record, Union}
 use Rattle.values.specs.Values.{Value, Values, members, array, record_of, union, word, two_bytes, encode, encode_row}
 
 -- An array's head: its kind, its low index and the number of its elements.
@@ -26,3 +28,15 @@ HeadsRecord count = (vs : Values) → length (members vs) ≡ count → encode (
 -- The bytes of every union with this tag are the head and then the constituent.
 abbrev pub HeadsUnion : ℕ → Type 0
 HeadsUnion tag = (v : Value) → encode (union tag v) ≡ union_head tag ++ encode v
+
+-- The bytes of a head.
+abbrev pub head_bytes : Head → List ℕ
+head_bytes (Array low count) = array_head low count
+head_bytes (Record count) = record_head count
+head_bytes (Union tag) = union_head tag
+
+-- The bytes of every value with this head are the head and then the parts.
+abbrev pub IsHead : Head → Type 0
+IsHead (Array low count) = HeadsArray low count
+IsHead (Record count) = HeadsRecord count
+IsHead (Union tag) = HeadsUnion tag

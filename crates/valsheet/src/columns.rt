@@ -10,7 +10,10 @@ pub fn report<S: Operators>(rt: &HostRuntime, path: &str) -> anyhow::Result<()> 
     let heap = rt.alloc();
     let text = fs::read_to_string(rt, path)?;
     let columns = read_table(heap, text.as_str()).map_err(|misread| anyhow!("{path}: {misread}"))?;
-    println!(rt; "{path}: {} columns, in tenths of a micrometre", columns.len())?;
+    println!(rt;
+        "{path}: {} columns, in tenths of a micrometre",
+        columns.len()
+    )?;
     for column in &columns {
         print_column::<S>(rt, column)?;
     }

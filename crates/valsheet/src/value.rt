@@ -9,8 +9,10 @@ pub fn show(rt: &HostRuntime, rows: &str, number: &str, bytes: &str) -> anyhow::
     let types = parse_types(heap, rows).map_err(|problem| anyhow!("{rows}: {problem}"))?;
     let bytes = parse_bytes(heap, bytes).map_err(|problem| anyhow!("the bytes: {problem}"))?;
     let number = number.parse::<u8>()?;
-    let length = read_whole(&types, bytes.as_slice(), number)
-        .map_err(|refusal| anyhow!("{refusal}: {}", explain(refusal)))?;
+    let length = read_whole(&types, bytes.as_slice(), number).map_err(|refusal| anyhow!(
+        "{refusal}: {}",
+        explain(refusal)
+    ))?;
     let text = show_value(heap, bytes.as_slice()).map_err(|problem| anyhow!("{problem}"))?;
     println!(rt; "{text} ({length} bytes of type {number})")?;
     Ok(())

@@ -1,16 +1,16 @@
 -- Bytes from an offset on.
-use Rattle.std.proofs.Common.{◌≡◌, ℕ, ◌+◌, ◌*◌, ◌/◌, ◌%◌, ◌<◌, ◌≤◌, true, List, [], ◌∷◌, ◌++◌, length, get_or, drop, ℤ, pos, negsuc, ◌≤ℤ◌, sym, refl, ap, ◌∙◌, add-zero, arith, length-drop, get_or-drop, drop-drop, w32, to_z}
+use Rattle.std.proofs.Common.{◌≡◌, ℕ, ◌+◌, ◌*◌, ◌/◌, ◌%◌, ◌<◌, ◌≤◌, true, false, ◌&&◌, List, [], ◌∷◌, ◌++◌, length, get_or, take, drop, ℤ, pos, negsuc, ◌≤ℤ◌, sym, refl, ap, ◌∙◌, add-zero, arith, length-drop, get_or-drop, drop-drop, w8, w32, Fits, SFits, to_z, of_z}
 use borrow.Author.Differences.{ints}
 use lib.Signed.{lt_z}
 use lib.Seq.{drop-append_seam}
 use Rattle.std.proofs.lemmas.List.{drop_more}
 use Rattle.std.proofs.lemmas.Int.{of_z-to_z}
-use Rattle.std.proofs.lemmas.Bool.{and_parts, ltb-true}
+use Rattle.std.proofs.lemmas.Bool.{and_from, and_parts, lt-ltb, ltb-true}
 use Rattle.numbers.specs.declared.number.Number.{Number}
 use Rattle.values.specs.Values.{two_bytes, four_bytes, word}
 use Rattle.values.proofs.Prefixes.{from_four}
-use Rattle.value_reader.specs.Bytes.{byte, word_at, two_fit, four_fit}
-use Rattle.value_reader.specs.Reading.{proper_at}
+use Rattle.value_reader.specs.Bytes.{byte, pair_at, word_at, two_fit, four_fit}
+use Rattle.value_reader.specs.Reading.{proper_at, ranged, indexed_at}
 
 -- The bytes xs stand from an offset to an end.
 pub record Span (bs : List ℕ) (at : ℕ) (xs : List ℕ) (end : ℕ) : Type 0 where
@@ -67,7 +67,7 @@ module _ (a b c d : ℕ) (ha : a < 256) (hb : b < 256) (hc : c < 256) (hd : d < 
       ∙ ap (λ x. a ∷ b ∷ x ∷ from_four a b c d % 256 ∷ []) r
       ∙ ap (λ x. a ∷ b ∷ c ∷ x ∷ []) s
 
-  word_of : word (to_z w32 (from_four a b c d)) ≡ a ∷ b ∷ c ∷ d ∷ []
+  pub word_of : word (to_z w32 (from_four a b c d)) ≡ a ∷ b ∷ c ∷ d ∷ []
   word_of = ap four_bytes (of_z-to_z w32 (from_four a b c d) (omega arith)) ∙ four_of
 
 -- A number from its four bytes.
@@ -90,3 +90,33 @@ proper_number bs at h =
     let d = ltb-true (byte bs (at + 3)) 256 cd.1 in
     let n = number_of (word_at bs at) p.1 (word_high (from_four (byte bs at) (byte bs (at + 1)) (byte bs (at + 2)) (byte bs (at + 3))) (omega arith)) in
     (n.0, n.1, ap word n.1 ∙ word_of _ _ _ _ a b c d)
+
+-- Numbers of bytes that were copied out.
+pub word_read : (bs xs : List ℕ) (at : ℕ) → at + 4 ≤ length bs → xs ≡ take 4 (drop at bs)
+    → to_z w32 (from_four (get_or xs 0 0) (get_or xs 1 0) (get_or xs 2 0) (get_or xs 3 0)) ≡ word_at bs at
+word_read bs xs at h e = ap (λ t. to_z w32 (from_four (get_or t 0 0) (get_or t 1 0) (get_or t 2 0) (get_or t 3 0))) (e ∙ ap (take 4) (four_drop bs at h))
+
+pub pair_read : (bs xs : List ℕ) (at : ℕ) → at + 2 ≤ length bs → xs ≡ take 2 (drop at bs) → get_or xs 0 0 * 256 + get_or xs 1 0 ≡ pair_at bs at
+pair_read bs xs at h e = ap (λ t. get_or t 0 0 * 256 + get_or t 1 0) (e ∙ ap (take 2) (two_drop bs at h))
+
+-- Bytes are bytes.
+pub two_fit_there : (bs : List ℕ) (at : ℕ) → ((i : ℕ) → Fits w8 (get_or bs i 0)) → two_fit bs at ≡ true
+two_fit_there bs at fit = and_from _ _ (lt-ltb _ 256 (fit at).fits) (lt-ltb _ 256 (fit (at + 1)).fits)
+
+pub four_fit_there : (bs : List ℕ) (at : ℕ) → ((i : ℕ) → Fits w8 (get_or bs i 0)) → four_fit bs at ≡ true
+four_fit_there bs at fit = and_from _ _ (two_fit_there bs at fit) (and_from _ _ (lt-ltb _ 256 (fit (at + 2)).fits) (lt-ltb _ 256 (fit (at + 3)).fits))
+
+-- The body of an array, by its two numbers.
+module _ (bs : List ℕ) (at : ℕ) (low : ℤ) (count : ℕ) (fit : (i : ℕ) → Fits w8 (get_or bs i 0)) (first : low ≡ word_at bs at) (second : count ≡ pair_at bs (at + 4)) where
+  pub indexed_by : lt_z (negsuc 2147483647) low && ranged low count ≡ indexed_at bs at
+  indexed_by =
+      ap (λ z. lt_z (negsuc 2147483647) z && ranged z count) first ∙ ap (λ n. lt_z (negsuc 2147483647) (word_at bs at) && ranged (word_at bs at) n) second
+      ∙ sym (ap (λ b. (b && lt_z (negsuc 2147483647) (word_at bs at)) && (two_fit bs (at + 4) && ranged (word_at bs at) (pair_at bs (at + 4)))) (four_fit_there bs at fit)
+      ∙ ap (λ b. lt_z (negsuc 2147483647) (word_at bs at) && (b && ranged (word_at bs at) (pair_at bs (at + 4)))) (two_fit_there bs (at + 4) fit))
+
+-- The test of the number that is not proper.
+pub not_least : (z : ℤ) → SFits w32 z → (of_z w32 z ≡ 2147483648 → ⊥) → lt_z (negsuc 2147483647) z ≡ true
+not_least z fits h = grind (arith, ints)
+
+pub is_least : (z : ℤ) → SFits w32 z → of_z w32 z ≡ 2147483648 → lt_z (negsuc 2147483647) z ≡ false
+is_least z fits h = grind (arith, ints)

@@ -50,20 +50,15 @@ trees_count below (n ∷ ns) = ap suc (trees_count below ns)
 pub repeated_more : (n i : ℕ) (f : ℕ → Verdict) (at : ℕ) → i < n → repeated (n - i) f at ≡ and_then (f at) (repeated (n - (i + 1)) f)
 repeated_more n i f at h = ap (λ k. repeated k f at) (let z : n - i ≡ suc (n - (i + 1)) = omega arith in z)
 
--- One member more.
-pub reads_more : (below : List Tree) (ns : List ℕ) (i n : ℕ) (bs : List ℕ) (at : ℕ) → slice_get ns i ≡ Some n
-    → reads (trees_of below (drop i ns)) bs at ≡ and_then (read (get_or below n Tree.boolean) bs at) (reads (trees_of below (drop (i + 1) ns)) bs)
+-- One member more, and none.
+pub reads_more : (below : List Tree) (ns : List ℕ) (i : ℕ) (bs : List ℕ) (at : ℕ) → i < length ns
+    → reads (trees_of below (drop i ns)) bs at ≡ and_then (read (get_or below (get_or ns i 0) Tree.boolean) bs at) (reads (trees_of below (drop (i + 1) ns)) bs)
 unfolding read
-reads_more below ns i n bs at e =
-    let k = nth_here ns i n 0 e in
-    ap (λ ms. reads (trees_of below ms) bs at) (drop_more ns i 0 k.0)
-    ∙ ap (λ m. and_then (read (get_or below m Tree.boolean) bs at) (reads (trees_of below (drop (i + 1) ns)) bs)) k.1
+reads_more below ns i bs at h = ap (λ ms. reads (trees_of below ms) bs at) (drop_more ns i 0 h)
 
-pub reads_none : (below : List Tree) (ns : List ℕ) (i : ℕ) (bs : List ℕ) (at : ℕ) → i ≤ length ns → slice_get ns i ≡ None → reads (trees_of below (drop i ns)) bs at ≡ Ok at
+pub reads_none : (below : List Tree) (ns : List ℕ) (i : ℕ) (bs : List ℕ) (at : ℕ) → length ns ≤ i → reads (trees_of below (drop i ns)) bs at ≡ Ok at
 unfolding read
-reads_none below [] i bs at h e = ap (λ ms. reads (trees_of below ms) bs at) (drop_all i [] (omega arith))
-reads_none below (n ∷ ns) zero bs at h e = absurd (let z : ◌≡◌ {A = ℕ} 0 1 = cc in let y : ⊥ = omega arith in y)
-reads_none below (n ∷ ns) (suc i) bs at h e = reads_none below ns i bs at (omega arith) e
+reads_none below ns i bs at h = ap (λ ms. reads (trees_of below ms) bs at) (drop_all i ns h)
 
 -- An element that is refused, and one that is read, in a loop whose rest gives the whole.
 module _ (n i : ℕ) (f : ℕ → Verdict) (at : ℕ) (whole : Verdict) (h : i < n) (w : repeated (n - i) f at ≡ whole) where
@@ -74,12 +69,12 @@ module _ (n i : ℕ) (f : ℕ → Verdict) (at : ℕ) (whole : Verdict) (h : i <
   repeated_next q p = ap (λ v. and_then v (repeated (n - (i + 1)) f)) p ∙ sym (repeated_more n i f at h) ∙ w
 
 -- The same of members.
-module _ (below : List Tree) (ns : List ℕ) (i n : ℕ) (bs : List ℕ) (at : ℕ) (whole : Verdict) (h : Some n ≡ slice_get ns i) (w : reads (trees_of below (drop i ns)) bs at ≡ whole) where
-  pub reads_fails : (e : Refusal) → Err e ≡ read (get_or below n Tree.boolean) bs at → Err e ≡ whole
-  reads_fails e p = ap (λ v. and_then v (reads (trees_of below (drop (i + 1) ns)) bs)) p ∙ sym (reads_more below ns i n bs at (sym h)) ∙ w
+module _ (below : List Tree) (ns : List ℕ) (i : ℕ) (bs : List ℕ) (at : ℕ) (whole : Verdict) (h : i < length ns) (w : reads (trees_of below (drop i ns)) bs at ≡ whole) where
+  pub reads_fails : (e : Refusal) → Err e ≡ read (get_or below (get_or ns i 0) Tree.boolean) bs at → Err e ≡ whole
+  reads_fails e p = ap (λ v. and_then v (reads (trees_of below (drop (i + 1) ns)) bs)) p ∙ sym (reads_more below ns i bs at h) ∙ w
 
-  pub reads_next : (q : ℕ) → Ok q ≡ read (get_or below n Tree.boolean) bs at → reads (trees_of below (drop (i + 1) ns)) bs q ≡ whole
-  reads_next q p = ap (λ v. and_then v (reads (trees_of below (drop (i + 1) ns)) bs)) p ∙ sym (reads_more below ns i n bs at (sym h)) ∙ w
+  pub reads_next : (q : ℕ) → Ok q ≡ read (get_or below (get_or ns i 0) Tree.boolean) bs at → reads (trees_of below (drop (i + 1) ns)) bs q ≡ whole
+  reads_next q p = ap (λ v. and_then v (reads (trees_of below (drop (i + 1) ns)) bs)) p ∙ sym (reads_more below ns i bs at h) ∙ w
 
 -- A union behind its head: the tag names a constituent, or none.
 module _ (below : List Tree) (ns : List ℕ) (bs : List ℕ) (at : ℕ) (o : Option ℕ) (p : Ok o ≡ opens 0x55 2 false bs at) (q : o ≡ None) where
@@ -92,21 +87,6 @@ module _ (below : List Tree) (ns : List ℕ) (bs : List ℕ) (at : ℕ) (o : Opt
   pub union_none : None ≡ slice_get ns (byte bs (at + 1)) → Err (Clash at) ≡ union_at (λ tag. chosen (trees_of below ns) tag bs) bs at
   union_none h = union_body (Err (Clash at)) (sym (chosen_none below ns (byte bs (at + 1)) bs at (sym h)))
 
--- The type of a row is read by its own step.
-module _ (below : List Tree) (row : Row) (bs : List ℕ) (at : ℕ) (v : Verdict) where
-  pub array_row : (n : ℕ) → row ≡ Array n → v ≡ array_at (read (get_or below n Tree.boolean) bs) bs at → v ≡ read (tree below row) bs at
-  unfolding read
-  array_row n e h = h ∙ ap (λ r. read (tree below r) bs at) (sym e)
-
-  pub record_row : (m : Members) → row ≡ Record m → v ≡ record_at (length (used m)) (reads (trees_of below (used m)) bs) bs at → v ≡ read (tree below row) bs at
-  unfolding read
-  record_row m e h =
-      h ∙ ap (λ n. record_at n (reads (trees_of below (used m)) bs) bs at) (sym (trees_count below (used m))) ∙ ap (λ r. read (tree below r) bs at) (sym e)
-
-  pub union_row : (m : Members) → row ≡ Union m → v ≡ union_at (λ tag. chosen (trees_of below (used m)) tag bs) bs at → v ≡ read (tree below row) bs at
-  unfolding read
-  union_row m e h = h ∙ ap (λ r. read (tree below r) bs at) (sym e)
-
 -- A row of a table, found by its number.
 found_by : (rows : List Row) (n : ℕ) (r : Row) (b : Bool) → Some r ≡ cond b None (slice_get rows (n - 2)) → (b ≡ false) × (slice_get rows (n - 2) ≡ Some r)
 found_by rows n r true e = absurd (let z : ◌≡◌ {A = ℕ} 0 1 = cc in let y : ⊥ = omega arith in y)
@@ -118,6 +98,28 @@ row_found rows n r s e =
     let f = found_by rows n r (ltb n 2) e in
     let k = nth_here rows (n - 2) r r f.1 in
     table_row rows n r s (ltb-false n 2 f.0) k.0 (sym k.1)
+
+-- An array's element has a lower number.
+pub element_lower : (rows : List Row) (n element : ℕ) → sound rows ≡ true → Some (Array element) ≡ row_of rows n → element < n
+element_lower rows n element s e = nth_below n (element ∷ []) 0 element (row_found rows n (Array element) s e).1 refl
+
+-- The type of a row is read by its own step.
+module _ (rows : List Row) (n : ℕ) (bs : List ℕ) (at : ℕ) (v : Verdict) (s : sound rows ≡ true) where
+  by_row : (r : Row) → Some r ≡ row_of rows n → v ≡ read (tree (table rows) r) bs at → v ≡ read (tree_at rows n) bs at
+  by_row r e h = h ∙ ap (λ t. read t bs at) (sym (row_found rows n r s e).0)
+
+  pub array_row : (element : ℕ) → Some (Array element) ≡ row_of rows n → v ≡ array_at (read (tree_at rows element) bs) bs at → v ≡ read (tree_at rows n) bs at
+  unfolding read
+  array_row element e h = by_row (Array element) e h
+
+  pub record_row : (m : Members) → Some (Record m) ≡ row_of rows n → v ≡ record_at (length (used m)) (reads (trees_of (table rows) (used m)) bs) bs at → v ≡ read (tree_at rows n) bs at
+  unfolding read
+  record_row m e h =
+      by_row (Record m) e (h ∙ ap (λ c. record_at c (reads (trees_of (table rows) (used m)) bs) bs at) (sym (trees_count (table rows) (used m))))
+
+  pub union_row : (m : Members) → Some (Union m) ≡ row_of rows n → v ≡ union_at (λ tag. chosen (trees_of (table rows) (used m)) tag bs) bs at → v ≡ read (tree_at rows n) bs at
+  unfolding read
+  union_row m e h = by_row (Union m) e h
 
 missed_by : (rows : List Row) (n : ℕ) (b : Bool) → b ≡ ltb n 2 → n < 2 + length rows → None ≡ cond b None (slice_get rows (n - 2)) → n < 2
 missed_by rows n true b h e = ltb-true n 2 (sym b)

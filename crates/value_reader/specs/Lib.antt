@@ -1,3 +1,4 @@
+pub mod Kinds
 pub mod Bytes
 pub mod Reading
 pub mod Exactness

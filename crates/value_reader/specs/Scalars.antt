@@ -1,11 +1,9 @@
 -- Integers and booleans in bytes.
 use Rattle.std.specs.Prelude.{◌≡◌, ℕ, ◌+◌, ◌<◌, ◌≤◌, Bool, ◌&&◌, List, ◌++◌, length, take, drop, Some, None, Option, ◌==◌, nat_le, nat_lt}
 use Rattle.value_reader.specs.Bytes.{byte}
-use Rattle.numbers.specs.declared.fault.Fault.{Fault}
-use Rattle.numbers.specs.declared.fault.Fault.TheVariants.{Undef, MissElt, PosOver, NegOver, Unknown, ZeroDivide}
 use Rattle.numbers.specs.declared.fault.BasicFault.{BasicFault}
-use Rattle.numbers.specs.declared.fault.BasicFault.TheVariants as basic
-use Rattle.values.specs.Values.{Value, size}
+use Rattle.numbers.specs.Faults.{basic_of}
+use Rattle.values.specs.Values.{Value, error, size}
 use Rattle.value_reader.specs.Exactness.{Stands}
 
 -- Whether a record of a kind begins at an offset, with a whole body.
@@ -17,14 +15,9 @@ abbrev pub Finds : {A : Type 0} → (A → Value) → List ℕ → ℕ → Optio
 Finds {A} value bs at r =
     (x : A) → (r ≡ Some x → Stands bs at (at + size (value x)) (value x)) × (Stands bs at (at + size (value x)) (value x) → r ≡ Some x)
 
--- An error as one that every type has, if it is one.
-abbrev pub narrowed : Fault → Option BasicFault
-narrowed Undef = Some basic.Undef
-narrowed MissElt = Some basic.MissElt
-narrowed PosOver = None
-narrowed NegOver = None
-narrowed Unknown = None
-narrowed ZeroDivide = None
+-- An error that every type has, as a value.
+abbrev pub basic_error : BasicFault → Value
+basic_error f = error (basic_of f)
 
 -- The bytes xs are laid at an offset, over what stood there, and the end is answered; where they do not fit, nothing
 -- changes.

@@ -1,15 +1,16 @@
 ghost use Rattle.std.specs.Prelude.{◌≡◌, ℕ, ◌+◌, ◌≤◌, Bool, true, length};
-ghost use Rattle.value_reader.specs.Reading.{boolean_at, integer_at, indexed_at};
+ghost use Rattle.value_reader.specs.Reading.{boolean_at, integer_at, indexed_at, ranged};
 
-use crate::bytes::{pair_at, word_at};
-use crate::heads::{BOOLEAN, INTEGER, begin};
+use crate::bytes::bytes_at;
+use crate::heads::begin;
+use crate::kind::Kind;
 use values::Refusal;
 
 // Where the boolean at `at` ends.
 pub(crate) fn boolean(bytes: &[u8], at: usize) -> Result<usize, Refusal>
     ensures { result ≡ boolean_at bytes.now at }
 {
-    if let Some(end) = begin(bytes, at, BOOLEAN, 2, false)? {
+    if let Some(end) = begin(bytes, at, Kind::Boolean)? {
         return Ok(end);
     }
     if bytes[at + 1] < 2 {
@@ -23,27 +24,31 @@ pub(crate) fn boolean(bytes: &[u8], at: usize) -> Result<usize, Refusal>
 pub(crate) fn integer(bytes: &[u8], at: usize) -> Result<usize, Refusal>
     ensures { result ≡ integer_at bytes.now at }
 {
-    if let Some(end) = begin(bytes, at, INTEGER, 5, true)? {
+    if let Some(end) = begin(bytes, at, Kind::Integer)? {
         return Ok(end);
     }
-    if word_at(bytes, at + 1) == i32::MIN {
+    if i32::from_be_bytes(bytes_at(bytes, at + 1)) == i32::MIN {
         Err(Refusal::Strange(at))
     } else {
         Ok(at + 5)
     }
 }
 
-// Whether the body of an array stands at `at`: a proper low index, which is 1 where there are no elements, and a
-// highest index of at most 2147483647.
+// Whether the body of an array stands at `at`: a proper low index and a number of elements that go together.
 pub(crate) fn is_indexed(bytes: &[u8], at: usize) -> bool
     requires { at + 6 ≤ length bytes.now }
     ensures { result ≡ indexed_at bytes.now at }
 {
-    let low = word_at(bytes, at);
-    let count = pair_at(bytes, at + 4);
-    if low == i32::MIN {
-        return false;
-    }
+    let low = i32::from_be_bytes(bytes_at(bytes, at));
+    let count = u16::from_be_bytes(bytes_at(bytes, at + 4));
+    low != i32::MIN && is_ranged(low, count)
+}
+
+// Whether so many elements may begin at a low index: it is 1 where there are none, and the highest index is at most
+// 2147483647.
+fn is_ranged(low: i32, count: u16) -> bool
+    ensures { result ≡ ranged low count }
+{
     if count == 0 && low != 1 {
         return false;
     }

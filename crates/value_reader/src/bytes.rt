@@ -1,20 +1,22 @@
-ghost use Rattle.std.specs.Prelude.{◌≡◌, ℕ, ◌+◌, ◌≤◌, true, length};
-ghost use Rattle.value_reader.specs.Bytes.{pair_at, word_at, two_fit, four_fit};
+ghost use Rattle.std.specs.Prelude.{◌≡◌, ℕ, ◌+◌, ◌≤◌, length, take, drop};
+ghost use Rattle.value_reader.specs.Scalars.{Laid};
 
-// The number of two bytes.
-pub(crate) fn pair_at(bytes: &[u8], at: usize) -> u16
-    requires { at + 2 ≤ length bytes.now }
-    ensures value { result ≡ pair_at bytes.now at }
-    ensures fits { two_fit bytes.now at ≡ true }
+// The N bytes from `at` on.
+pub(crate) fn bytes_at<const N: usize>(bytes: &[u8], at: usize) -> [u8; N]
+    requires { at + N ≤ length bytes.now }
+    ensures { result ≡ take N (drop at bytes.now) }
 {
-    u16::from_be_bytes([bytes[at], bytes[at + 1]])
+    bytes[at..at + N].try_into().unwrap()
 }
 
-// The number of four bytes.
-pub(crate) fn word_at(bytes: &[u8], at: usize) -> i32
-    requires { at + 4 ≤ length bytes.now }
-    ensures value { result ≡ word_at bytes.now at }
-    ensures fits { four_fit bytes.now at ≡ true }
+// Lays bytes over others from `at` on, if they fit, and answers where they end.
+pub fn lay_bytes(store: &mut [u8], at: usize, bytes: &[u8]) -> Option<usize>
+    ensures { Laid store.old store.new at bytes.now result }
 {
-    i32::from_be_bytes([bytes[at], bytes[at + 1], bytes[at + 2], bytes[at + 3]])
+    if at > store.len() || store.len() - at < bytes.len() {
+        return None;
+    }
+    let end = at + bytes.len();
+    store[at..end].copy_from_slice(bytes);
+    Some(end)
 }

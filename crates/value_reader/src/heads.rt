@@ -1,60 +1,44 @@
-ghost use Rattle.std.specs.Prelude.{◌≡◌, ℕ, ◌+◌, ◌<◌, ◌≤◌, length, None, Ok};
+ghost use Rattle.std.specs.Prelude.{◌≡◌, ℕ, ◌+◌, ◌<◌, ◌≤◌, length, Some, None, Ok, Err, MatchResult};
+ghost use Rattle.value_reader.specs.Kinds.{code_of, head_size, is_arithmetic};
 ghost use Rattle.value_reader.specs.Reading.{fault_at, opens};
 
+use crate::kind::Kind;
+use numbers::Fault;
 use values::Refusal;
 
-pub(crate) const BOOLEAN: u8 = 0x50;
-
-pub(crate) const INTEGER: u8 = 0x51;
-
-pub(crate) const ERROR: u8 = 0x52;
-
-pub(crate) const ARRAY: u8 = 0x53;
-
-pub(crate) const RECORD: u8 = 0x54;
-
-pub(crate) const UNION: u8 = 0x55;
-
-// The error value at `at`: where it ends.
-fn fault(bytes: &[u8], at: usize, arithmetic: bool) -> Result<Option<usize>, Refusal>
+// The error value at `at`, of a type of this kind: where it ends.
+fn fault(bytes: &[u8], at: usize, own: Kind) -> Result<usize, Refusal>
     requires { at < length bytes.now }
-    ensures { result ≡ fault_at arithmetic bytes.now at }
+    ensures { MatchResult result
+        (λ end. fault_at (is_arithmetic own) bytes.now at ≡ Ok (Some end))
+        (λ refusal. fault_at (is_arithmetic own) bytes.now at ≡ Err refusal) }
 {
     if bytes.len() - at < 2 {
         return Err(Refusal::Cut(at));
     }
-    let code = bytes[at + 1];
-    let last = if arithmetic { 6 } else { 2 };
-    if code >= 1 && code <= last {
-        Ok(Some(at + 2))
-    } else {
-        Err(Refusal::Clash(at))
+    match Fault::try_from(bytes[at + 1]) {
+        Ok(fault) if own.admits(fault) => Ok(at + 2),
+        _ => Err(Refusal::Clash(at)),
     }
 }
 
-// The head of the record at `at`, whose type's own kind is `own` and takes `size` bytes before the parts: where an
-// error value ends, or nothing if the record is of its own kind and whole so far.
-pub(crate) fn begin(
-    bytes: &[u8],
-    at: usize,
-    own: u8,
-    size: usize,
-    arithmetic: bool,
-) -> Result<Option<usize>, Refusal>
-    ensures opens { result ≡ opens own size arithmetic bytes.now at }
-    ensures whole { result ≡ Ok None → at + size ≤ length bytes.now }
+// The head of the record at `at`, of a type of this kind: where an error value ends, or nothing if the record is of
+// the type's own kind and whole so far.
+pub(crate) fn begin(bytes: &[u8], at: usize, own: Kind) -> Result<Option<usize>, Refusal>
+    ensures opens { result ≡ opens (code_of own) (head_size own) (is_arithmetic own) bytes.now at }
+    ensures whole { result ≡ Ok None → at + head_size own ≤ length bytes.now }
 {
     if at >= bytes.len() {
         return Err(Refusal::Cut(bytes.len()));
     }
-    let kind = bytes[at];
-    if kind == ERROR {
-        return fault(bytes, at, arithmetic);
+    let kind = Kind::try_from(bytes[at]).map_err(|_| Refusal::Clash(at))?;
+    if kind == Kind::Error {
+        return Ok(Some(fault(bytes, at, own)?));
     }
     if kind != own {
         return Err(Refusal::Clash(at));
     }
-    if bytes.len() - at < size {
+    if bytes.len() - at < own.head_size() {
         return Err(Refusal::Cut(at));
     }
     Ok(None)

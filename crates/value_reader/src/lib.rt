@@ -4,10 +4,13 @@
 mod bodies;
 mod bytes;
 mod heads;
+mod kind;
 mod reader;
 mod scalar;
 mod skip;
 
+pub use bytes::lay_bytes;
+pub use kind::{Kind, UnknownKind};
 pub use reader::{read_value, read_whole};
-pub use scalar::{read_boolean, read_integer, write_boolean, write_integer};
+pub use scalar::Scalar;
 pub use skip::skip_value;

@@ -1,8 +1,8 @@
 ghost use Rattle.std.specs.Prelude.{◌≡◌};
 ghost use Rattle.value_reader.specs.Skipping.{head_at, skipped, Skips};
 
-use crate::bytes::pair_at;
-use crate::heads::{ARRAY, BOOLEAN, ERROR, INTEGER, RECORD, UNION};
+use crate::bytes::bytes_at;
+use crate::kind::Kind;
 
 // What a record's kind and body say without its type: the bytes that they take, and the values that stand in the
 // record.
@@ -16,24 +16,16 @@ pub(crate) struct Head {
 fn head_at(bytes: &[u8], at: usize) -> Option<Head>
     ensures { result ≡ head_at bytes.now at }
 {
-    if at >= bytes.len() {
-        return None;
-    }
-    let kind = bytes[at];
-    let long = match kind {
-        INTEGER => 5,
-        ARRAY => 7,
-        BOOLEAN | ERROR | RECORD | UNION => 2,
-        _ => return None,
-    };
+    let kind = Kind::try_from(*bytes.get(at)?).ok()?;
+    let long = kind.head_size();
     if bytes.len() - at < long {
         return None;
     }
     let inner = match kind {
-        ARRAY => pair_at(bytes, at + 5) as usize,
-        RECORD => bytes[at + 1] as usize,
-        UNION => 1,
-        _ => 0,
+        Kind::Array => u16::from_be_bytes(bytes_at(bytes, at + 5)) as usize,
+        Kind::Record => bytes[at + 1] as usize,
+        Kind::Union => 1,
+        Kind::Boolean | Kind::Integer | Kind::Error => 0,
     };
     Some(Head { long, inner })
 }

@@ -1,5 +1,4 @@
-ghost use Rattle.std.specs.Prelude.{◌≡◌, Some, codes, MatchResult};
-ghost use Rattle.std.specs.Str.{bytes_eq};
+ghost use Rattle.std.specs.Prelude.{◌≡◌, ◌<◌, Some, IfSome, MatchResult};
 ghost use Rattle.value_text.specs.Hex.{digit_value, byte_of, hex, hex_text, Refuses};
 
 use crate::problem::Problem;
@@ -9,29 +8,26 @@ use std::alloc::Global;
 pub fn parse_bytes(heap: Global, text: &str) -> Result<Vec<u8>, Problem>
     ensures { MatchResult result (λ v. hex_text text.now ≡ Some v.items) (λ e. Refuses e (hex_text text.now)) }
 {
-    if is_dash(text) {
+    if text == "-" {
         Ok(Vec::new(heap))
     } else {
         digits_to_bytes(heap, text.as_bytes())
     }
 }
 
-fn is_dash(text: &str) -> bool
-    ensures { result ≡ bytes_eq text.now (codes "-") }
-{
-    text == "-"
-}
-
 fn digits_to_bytes(heap: Global, digits: &[u8]) -> Result<Vec<u8>, Problem>
     ensures { MatchResult result (λ v. hex digits.now ≡ Some v.items) (λ e. Refuses e (hex digits.now)) }
 {
-    if digits.len() % 2 != 0 {
+    let (pairs, rest) = digits.as_chunks::<2>();
+    if !rest.is_empty() {
         return Err(Problem::OddDigits);
     }
     let mut bytes = Vec::new(heap);
-    for i in 0..digits.len() / 2 {
-        let Some(byte) = byte_of(digits[2 * i], digits[2 * i + 1]) else {
-            return Err(Problem::NoHexDigit { place: i + 1 });
+    for &[high, low] in pairs {
+        let Some(byte) = byte_of(high, low) else {
+            return Err(Problem::NoHexDigit {
+                place: bytes.len() + 1,
+            });
         };
         bytes.push(byte)?;
     }
@@ -42,14 +38,12 @@ fn digits_to_bytes(heap: Global, digits: &[u8]) -> Result<Vec<u8>, Problem>
 fn byte_of(high: u8, low: u8) -> Option<u8>
     ensures { result ≡ byte_of (digit_value high) (digit_value low) }
 {
-    match (digit(high), digit(low)) {
-        (Some(h), Some(l)) => Some((h % 16) * 16 + l % 16),
-        _ => None,
-    }
+    Some(digit(high)? * 16 + digit(low)?)
 }
 
 fn digit(byte: u8) -> Option<u8>
-    ensures { result ≡ digit_value byte }
+    ensures value { result ≡ digit_value byte }
+    ensures below { IfSome result (λ digit. digit < 16) }
 {
     match byte {
         b'0'..=b'9' => Some(byte - b'0'),

@@ -2,20 +2,28 @@ ghost use Rattle.std.specs.Prelude.{◌≡◌};
 ghost use Rattle.value_text.specs.declared.problem.Problem.TheVariants.{Memory};
 
 use std::alloc::{AllocError, AllocFailed};
-use std::fmt;
+use thiserror::Error;
 
 // What is wrong with a text; places count from 1.
-#[derive(Clone, Copy, Drop)]
+#[derive(Clone, Copy, Debug, Error)]
 pub enum Problem {
+    #[error("expected two hexadecimal digits for each byte")]
     OddDigits,
+    #[error("byte {place}: expected two hexadecimal digits")]
     NoHexDigit { place: usize },
+    #[error("row {place}: expected array:T, record:T,.. or union:T,..")]
     NoRow { place: usize },
+    #[error("row {place}: expected 1 to 8 type numbers (an array has one)")]
     NoMembers { place: usize },
+    #[error("row {place}: expected type numbers lower than the row's own")]
     NotLower { place: usize },
+    #[error("expected at most 60 rows")]
     TooManyRows,
+    #[error("out of memory")]
     Memory,
 }
 
+// By hand, since the derive's conversions do not say what they give.
 impl From<AllocError> for Problem {
     ghost from_gives = { λ _ r. r ≡ Memory };
 
@@ -29,31 +37,5 @@ impl<T: Drop> From<AllocFailed<T>> for Problem {
 
     fn from(_: AllocFailed<T>) -> Problem {
         Problem::Memory
-    }
-}
-
-impl fmt::Display for Problem {
-    fn fmt<W: fmt::Write>(&self, f: &mut fmt::Formatter<W>) -> fmt::Result {
-        match *self {
-            Problem::OddDigits => f.write_str("expected two hexadecimal digits for each byte"),
-            Problem::NoHexDigit { place } => write!(
-                f,
-                "byte {place}: expected two hexadecimal digits"
-            ),
-            Problem::NoRow { place } => write!(
-                f,
-                "row {place}: expected array:T, record:T,.. or union:T,.."
-            ),
-            Problem::NoMembers { place } => write!(
-                f,
-                "row {place}: expected 1 to 8 type numbers (an array has one)"
-            ),
-            Problem::NotLower { place } => write!(
-                f,
-                "row {place}: expected type numbers lower than the row's own"
-            ),
-            Problem::TooManyRows => f.write_str("expected at most 60 rows"),
-            Problem::Memory => f.write_str("out of memory"),
-        }
     }
 }

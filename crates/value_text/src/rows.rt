@@ -10,50 +10,32 @@ pub fn parse_types(heap: Global, text: &str) -> Result<Types, Problem> {
     }
     for (i, part) in text.split('/').enumerate() {
         let place = i.saturating_add(1);
-        let row = parse_row(part, place)?;
-        match types.push(row) {
-            Ok(_) => {}
-            Err(RowError::Full) => return Err(Problem::TooManyRows),
-            Err(RowError::Forward) => return Err(Problem::NotLower { place }),
-            Err(RowError::Memory) => return Err(Problem::Memory),
-        }
+        types
+            .push(parse_row(part, place)?)
+            .map_err(|error| match error {
+                RowError::Full => Problem::TooManyRows,
+                RowError::Forward => Problem::NotLower { place },
+                RowError::Memory => Problem::Memory,
+            })?;
     }
     Ok(types)
 }
 
 fn parse_row(part: &str, place: usize) -> Result<Row, Problem> {
-    let Some((sort, numbers)) = part.split_once(':') else {
-        return Err(Problem::NoRow { place });
+    let (sort, numbers) = part.split_once(':').ok_or(Problem::NoRow { place })?;
+    let row = match sort {
+        "array" => numbers.parse().ok().map(Row::Array),
+        "record" => parse_members(numbers).map(Row::Record),
+        "union" => parse_members(numbers).map(Row::Union),
+        _ => return Err(Problem::NoRow { place }),
     };
-    if sort == "array" {
-        match numbers.parse::<u8>() {
-            Ok(element) => Ok(Row::Array(element)),
-            Err(_) => Err(Problem::NoMembers { place }),
-        }
-    } else if sort == "record" {
-        Ok(Row::Record(parse_members(numbers, place)?))
-    } else if sort == "union" {
-        Ok(Row::Union(parse_members(numbers, place)?))
-    } else {
-        Err(Problem::NoRow { place })
-    }
+    row.ok_or(Problem::NoMembers { place })
 }
 
-fn parse_members(text: &str, place: usize) -> Result<Members, Problem> {
-    let mut numbers = [0u8; 8];
-    let mut count = 0u8;
-    for word in text.split(',') {
-        let Ok(number) = word.parse::<u8>() else {
-            return Err(Problem::NoMembers { place });
-        };
-        if count >= 8 {
-            return Err(Problem::NoMembers { place });
-        }
-        numbers[count as usize] = number;
-        count += 1;
+fn parse_members(text: &str) -> Option<Members> {
+    let mut numbers = [0; 8];
+    for (number, word) in numbers.iter_mut().zip(text.split(',')) {
+        *number = word.parse().ok()?;
     }
-    match Members::new(numbers, count) {
-        Some(members) => Ok(members),
-        None => Err(Problem::NoMembers { place }),
-    }
+    Members::new(numbers, u8::try_from(text.split(',').count()).ok()?)
 }

@@ -1,112 +1,102 @@
-ghost use Rattle.std.specs.Prelude.{◌+◌, ◌≤◌, length};
-
 use crate::problem::Problem;
+use numbers::{Boolean, Integer};
 use std::alloc::Global;
-use value_reader::{read_boolean, read_integer};
+use std::fmt::Display;
+use value_reader::{Kind, Scalar};
 
 // A value nests at most as deep as there are types.
 const DEEPEST: u8 = 64;
 
 // A value as VAL writes it, from bytes that read as one.
 pub fn show_value(heap: Global, bytes: &[u8]) -> Result<String, Problem> {
-    let mut out = String::new(heap);
-    let _end = show(heap, &mut out, bytes, 0, DEEPEST)?;
-    Ok(out)
+    let mut printer = Printer {
+        rest: bytes,
+        text: String::new(heap),
+    };
+    printer.value(DEEPEST)?;
+    let Printer { text, .. } = printer;
+    Ok(text)
 }
 
-// Writes the value at `at`, and answers where it ends.
-#[cycle(shown_values)]
-fn show(
-    heap: Global,
-    out: &mut String,
-    bytes: &[u8],
-    at: usize,
-    depth: u8,
-) -> Result<usize, Problem> {
-    if depth == 0 || at >= bytes.len() {
-        return Ok(bytes.len());
-    }
-    if let Some(integer) = read_integer(bytes, at) {
-        out.push_str(integer.to_string(heap)?.as_str())?;
-        return Ok(if bytes[at] == 0x51 {
-            at.saturating_add(5)
-        } else {
-            at.saturating_add(2)
-        });
-    }
-    if let Some(boolean) = read_boolean(bytes, at) {
-        out.push_str(boolean.to_string(heap)?.as_str())?;
-        return Ok(at.saturating_add(2));
-    }
-    if bytes.len() - at < 2 {
-        return Ok(bytes.len());
-    }
-    match bytes[at] {
-        0x53 => show_array(heap, out, bytes, at, depth - 1),
-        0x54 => show_record(heap, out, bytes, at, depth - 1),
-        _ => show_union(heap, out, bytes, at, depth - 1),
-    }
+// The bytes that are not written yet, and the text so far.
+#[derive(Drop)]
+struct Printer<'a> {
+    rest: &'a [u8],
+    text: String,
 }
 
-#[cycle(shown_values)]
-fn show_array(
-    heap: Global,
-    out: &mut String,
-    bytes: &[u8],
-    at: usize,
-    depth: u8,
-) -> Result<usize, Problem>
-    requires { at + 2 ≤ length bytes.now }
-{
-    if bytes.len() - at < 7 {
-        return Ok(bytes.len());
+impl<'a> Printer<'a> {
+    // Writes the value at the front, which nests at most so deep. The text ends at bytes that are no value.
+    #[cycle(shown_values)]
+    fn value(&mut self, depth: u8) -> Result<(), Problem> {
+        let (Some(inner), Some(&first)) = (depth.checked_sub(1), self.rest.first()) else {
+            self.rest = &[];
+            return Ok(());
+        };
+        match Kind::try_from(first) {
+            Ok(Kind::Boolean) => self.scalar::<Boolean>(Kind::Boolean),
+            Ok(Kind::Integer) => self.scalar::<Integer>(Kind::Integer),
+            Ok(Kind::Error) => self.scalar::<Integer>(Kind::Error),
+            Ok(Kind::Array) => self.array(inner),
+            Ok(Kind::Record) => self.record(inner),
+            Ok(Kind::Union) => self.union(inner),
+            Err(_) => {
+                self.rest = &[];
+                Ok(())
+            }
+        }
     }
-    let low = i32::from_be_bytes([bytes[at + 1], bytes[at + 2], bytes[at + 3], bytes[at + 4]]);
-    let count = u16::from_be_bytes([bytes[at + 5], bytes[at + 6]]);
-    out.push_str(format!(in heap; "[{low}:")?.as_str())?;
-    let mut end = at + 7;
-    for i in 0..count {
-        out.push_str(if i == 0 { " " } else { ", " })?;
-        end = show(heap, out, bytes, end, depth)?;
-    }
-    out.push_str("]")?;
-    Ok(end)
-}
 
-#[cycle(shown_values)]
-fn show_record(
-    heap: Global,
-    out: &mut String,
-    bytes: &[u8],
-    at: usize,
-    depth: u8,
-) -> Result<usize, Problem>
-    requires { at + 2 ≤ length bytes.now }
-{
-    let count = bytes[at + 1];
-    out.push_str("record [")?;
-    let mut end = at + 2;
-    for i in 0..count {
-        out.push_str(format!(in heap; "{}{i}: ", if i == 0 { "" } else { ", " })?.as_str())?;
-        end = show(heap, out, bytes, end, depth)?;
+    fn scalar<S: Scalar + Display>(&mut self, kind: Kind) -> Result<(), Problem> {
+        if let Some(scalar) = S::read(self.rest, 0) {
+            write!(self.text, "{scalar}")?;
+        }
+        self.rest = self.rest.get(kind.head_size()..).unwrap_or(&[]);
+        Ok(())
     }
-    out.push_str("]")?;
-    Ok(end)
-}
 
-#[cycle(shown_values)]
-fn show_union(
-    heap: Global,
-    out: &mut String,
-    bytes: &[u8],
-    at: usize,
-    depth: u8,
-) -> Result<usize, Problem>
-    requires { at + 2 ≤ length bytes.now }
-{
-    let tag = bytes[at + 1];
-    out.push_str(format!(in heap; "union [{tag}: ")?.as_str())?;
-    let end = show(heap, out, bytes, at + 2, depth)?;
-    out.push_str("]")?;
-    Ok(end)
+    #[cycle(shown_values)]
+    fn array(&mut self, depth: u8) -> Result<(), Problem> {
+        let Some((&[_, a, b, c, d, e, f], rest)) = self.rest.split_first_chunk::<7>() else {
+            self.rest = &[];
+            return Ok(());
+        };
+        self.rest = rest;
+        write!(self.text, "[{}:", i32::from_be_bytes([a, b, c, d]))?;
+        for i in 0..u16::from_be_bytes([e, f]) {
+            self.text.push_str(if i == 0 { " " } else { ", " })?;
+            self.value(depth)?;
+        }
+        self.text.push_str("]")?;
+        Ok(())
+    }
+
+    #[cycle(shown_values)]
+    fn record(&mut self, depth: u8) -> Result<(), Problem> {
+        let Some((&[_, count], rest)) = self.rest.split_first_chunk::<2>() else {
+            self.rest = &[];
+            return Ok(());
+        };
+        self.rest = rest;
+        self.text.push_str("record [")?;
+        for i in 0..count {
+            write!(self.text, "{}{i}: ", if i == 0 { "" } else { ", " })?;
+            self.value(depth)?;
+        }
+        self.text.push_str("]")?;
+        Ok(())
+    }
+
+    #[cycle(shown_values)]
+    fn union(&mut self, depth: u8) -> Result<(), Problem> {
+        let Some((&[_, tag], rest)) = self.rest.split_first_chunk::<2>() else {
+            self.rest = &[];
+            return Ok(());
+        };
+        self.rest = rest;
+        write!(self.text, "union [{tag}: ")?;
+        self.value(depth)?;
+        self.text.push_str("]")?;
+        Ok(())
+    }
 }

@@ -1,91 +1,110 @@
-use Rattle.std.proofs.Common.{◌+◌, ◌<◌, sym, ap, ◌∙◌, arith, rules}
+use Rattle.std.proofs.Common.{◌+◌, ◌<◌, sym, ◌∙◌, arith, rules}
 use Rattle.std.proofs.lemmas.Result.{err_from_is_err_and}
 use Rattle.values.specs.Tables.{rows_of}
 use Rattle.values.specs.Rows.{used, table}
 use Rattle.value_reader.specs.Bytes.{byte}
-use Rattle.value_reader.specs.Reading.{read}
-use Rattle.value_reader.proofs.Steps.{nth_here, nth_below, repeated_fails, repeated_next, reads_fails, reads_next, reads_none, union_some, union_none, array_row, record_row, union_row, row_found, row_missed, boolean_row, integer_row}
+use Rattle.value_reader.proofs.Steps.{nth_below, element_lower, repeated_fails, repeated_next, reads_fails, reads_next, reads_none, union_some, union_none, array_row, record_row, union_row, row_found, row_missed, boolean_row, integer_row}
 use Rattle.value_reader.proofs.reader.+parts_of_values.Goals as goal
 
--- elements
+-- Reader::values
 
-pub elements-returns-in_err-end : goal.elements-returns-in_err-end
-elements-returns-in_err-end t c =
+pub Reader::values-returns-in_err-end : goal.Reader::values-returns-in_err-end
+Reader::values-returns-in_err-end t c =
     let p = err_from_is_err_and c.from_residual.result c.from_residual.ensures.1 in
-    rw (p.1, p.2) (repeated_fails c.args.count c.loop-i._i _ c.loop-i.end _ c.loop-i-test.true c.loop-i.invariant _ c.in_err-end.ensures)
+    rw (p.1, p.2) (repeated_fails c.args.count c.loop.counter _ c.loop.end _ c.loop-test.true c.loop.invariant _ c.in_err-end.ensures)
 
-pub elements-loop-i-preserved : goal.elements-loop-i-preserved
-elements-loop-i-preserved t c =
-    repeated_next c.args.count c.loop-i._i _ c.loop-i.end _ c.loop-i-test.true c.loop-i.invariant _ c.in_ok-end.ensures
+pub Reader::values-loop-preserved : goal.Reader::values-loop-preserved
+Reader::values-loop-preserved t c = repeated_next c.args.count c.loop.counter _ c.loop.end _ c.loop-test.true c.loop.invariant _ c.in_ok-end.ensures
 
--- parts
+-- Parts::values
 
-pub parts-value-requires : goal.parts-value-requires
-parts-value-requires t c =
-    let m : c.in-Some.member < c.args.number = nth_below c.args.number (used c.args.members) c.loop-member.index c.in-Some.member c.requires.1 (sym c.in-Some.ensures) in
-    (search rules, omega (arith, c.requires.0))
-
-pub parts-returns-in_err-end : goal.parts-returns-in_err-end
-parts-returns-in_err-end t c =
+pub Parts::values-returns-in_err-end : goal.Parts::values-returns-in_err-end
+Parts::values-returns-in_err-end t c =
     let p = err_from_is_err_and c.from_residual.result c.from_residual.ensures.1 in
-    rw (p.1, p.2) (reads_fails _ _ c.loop-member.index c.in-Some.member _ c.loop-member.end _ c.in-Some.ensures c.loop-member.invariant.1 _ c.in_err-end.ensures)
+    rw (p.1, p.2) (reads_fails _ _ c.loop-number.number-index _ c.loop-number.end _ c.loop-number-test.true c.loop-number.invariant _ c.in_err-end.ensures)
 
-pub parts-loop-member-smaller : goal.parts-loop-member-smaller
-parts-loop-member-smaller t c = omega (arith, (nth_here (used c.args.members) c.loop-member.index _ 0 (sym c.in-Some.ensures)).0)
+pub Parts::values-loop-number-preserved : goal.Parts::values-loop-number-preserved
+Parts::values-loop-number-preserved t c =
+    reads_next _ _ c.loop-number.number-index _ c.loop-number.end _ c.loop-number-test.true c.loop-number.invariant _ c.in_ok-end.ensures
 
-pub parts-loop-member-preserved : goal.parts-loop-member-preserved
-parts-loop-member-preserved t c = (
-  omega (arith, (nth_here (used c.args.members) c.loop-member.index _ 0 (sym c.in-Some.ensures)).0),
-  reads_next _ _ c.loop-member.index c.in-Some.member _ c.loop-member.end _ c.in-Some.ensures c.loop-member.invariant.1 _ c.in_ok-end.ensures,
-)
+pub Parts::values-returns : goal.Parts::values-returns
+Parts::values-returns t c = sym (reads_none _ _ c.loop-number.number-index _ c.loop-number.end c.loop-number-test.false) ∙ c.loop-number.invariant
 
-pub parts-returns : goal.parts-returns
-parts-returns t c =
-    sym (reads_none _ _ c.loop-member.index _ c.loop-member.end c.loop-member.invariant.0 (sym c.in_default.ensures)) ∙ c.loop-member.invariant.1
+-- Parts::union
 
--- union
+pub Parts::union-invariant_of-value : goal.Parts::union-invariant_of-value
+Parts::union-invariant_of-value t c =
+    let own = c.args.self.now in
+    let lower : c.in-Some-get.number < own.whole.number = nth_below own.whole.number (used own.members) (byte own.whole.source.bytes.now (c.args.at + 1)) c.in-Some-get.number own.lower (sym c.in-Some-get.ensures) in
+    omega (arith, own.whole.declared)
 
-pub union-value-requires : goal.union-value-requires
-union-value-requires t c =
-    let m : c.in-Some-get.constituent < c.args.number = nth_below c.args.number (used c.args.constituents) (byte c.args.bytes.now (c.args.at + 1)) c.in-Some-get.constituent c.requires.1 (sym c.in-Some-get.ensures) in
-    (search rules, omega (arith, c.requires.0))
+pub Parts::union-value-requires : goal.Parts::union-value-requires
+Parts::union-value-requires t c =
+    let own = c.args.self.now in
+    let lower : c.in-Some-get.number < own.whole.number = nth_below own.whole.number (used own.members) (byte own.whole.source.bytes.now (c.args.at + 1)) c.in-Some-get.number own.lower (sym c.in-Some-get.ensures) in
+    search rules
 
-pub union-returns-in-Some-get : goal.union-returns-in-Some-get
-union-returns-in-Some-get t c =
-    union_some (table (rows_of c.args.types.now)) (used c.args.constituents) c.args.bytes.now c.args.at c.in_ok-end.field-0
-    c.in_ok-end.ensures.opens c.in_default.is c.in-Some-get.constituent c.value.result c.in-Some-get.ensures c.value.ensures
+pub Parts::union-returns-in-Some-get : goal.Parts::union-returns-in-Some-get
+Parts::union-returns-in-Some-get t c =
+    let own = c.args.self.now in
+    union_some (table (rows_of own.whole.source.types.now)) (used own.members) own.whole.source.bytes.now c.args.at c.in_ok-end.field-0
+    c.in_ok-end.ensures.opens c.in_default.is c.in-Some-get.number c.value.result c.in-Some-get.ensures c.value.ensures
 
-pub union-returns-in-None : goal.union-returns-in-None
-union-returns-in-None t c =
-    union_none (table (rows_of c.args.types.now)) (used c.args.constituents) c.args.bytes.now c.args.at c.in_ok-end.field-0
+pub Parts::union-returns-in-None : goal.Parts::union-returns-in-None
+Parts::union-returns-in-None t c =
+    let own = c.args.self.now in
+    union_none (table (rows_of own.whole.source.types.now)) (used own.members) own.whole.source.bytes.now c.args.at c.in_ok-end.field-0
     c.in_ok-end.ensures.opens c.in_default.is c.in-None.ensures
 
--- composed
+-- Reader::value
 
-pub composed-returns-in-Array : goal.composed-returns-in-Array
-composed-returns-in-Array t c = array_row (table (rows_of c.args.types.now)) c.args.row c.args.bytes.now c.args.at c.array.result c.in-Array.element c.in-Array.is c.array.ensures
+pub Reader::value-invariant_of-array : goal.Reader::value-invariant_of-array
+Reader::value-invariant_of-array t c =
+    let own = c.args.self.now in
+    let lower = element_lower (rows_of own.source.types.now) own.number c.in-Some-Array.number own.source.types.now.lawful (rw c.in-Some-Array.field-0-is at c.in-Some-Array.ensures) in
+    omega (arith, own.declared)
 
-pub composed-returns-in-Record : goal.composed-returns-in-Record
-composed-returns-in-Record t c = record_row (table (rows_of c.args.types.now)) c.args.row c.args.bytes.now c.args.at c.record.result c.in-Record.members c.in-Record.is c.record.ensures
+pub Reader::value-array-requires : goal.Reader::value-array-requires
+Reader::value-array-requires t c =
+    let own = c.args.self.now in
+    let lower = element_lower (rows_of own.source.types.now) own.number c.in-Some-Array.number own.source.types.now.lawful (rw c.in-Some-Array.field-0-is at c.in-Some-Array.ensures) in
+    search rules
 
-pub composed-returns-in-Union : goal.composed-returns-in-Union
-composed-returns-in-Union t c = union_row (table (rows_of c.args.types.now)) c.args.row c.args.bytes.now c.args.at c.union.result c.in-Union.constituents c.in-Union.is c.union.ensures
+pub Reader::value-invariant_of-record : goal.Reader::value-invariant_of-record
+Reader::value-invariant_of-record t c =
+    let own = c.args.self.now in
+    record { lower = (row_found (rows_of own.source.types.now) own.number _ own.source.types.now.lawful (rw c.in-Some-Record.field-0-is at c.in-Some-Record.ensures)).1 }
 
--- value
+pub Reader::value-invariant_of-union : goal.Reader::value-invariant_of-union
+Reader::value-invariant_of-union t c =
+    let own = c.args.self.now in
+    record { lower = (row_found (rows_of own.source.types.now) own.number _ own.source.types.now.lawful (rw c.in-Some-Union.field-0-is at c.in-Some-Union.ensures)).1 }
 
-pub value-composed-requires : goal.value-composed-requires
-value-composed-requires t c =
-    (search rules, (c.requires, (row_found (rows_of c.args.types.now) c.args.number c.in-Some.row c.args.types.now.lawful c.in-Some.ensures).1))
+pub Reader::value-returns-in-Some-Array : goal.Reader::value-returns-in-Some-Array
+Reader::value-returns-in-Some-Array t c =
+    let own = c.args.self.now in
+    array_row (rows_of own.source.types.now) own.number own.source.bytes.now c.args.at c.array.result own.source.types.now.lawful c.in-Some-Array.number
+    (rw c.in-Some-Array.field-0-is at c.in-Some-Array.ensures) c.array.ensures
 
-pub value-returns-in-Some : goal.value-returns-in-Some
-value-returns-in-Some t c =
-    c.composed.ensures
-    ∙ ap (λ x. read x c.args.bytes.now c.args.at) (sym (row_found (rows_of c.args.types.now) c.args.number c.in-Some.row c.args.types.now.lawful c.in-Some.ensures).0)
+pub Reader::value-returns-in-Some-Record : goal.Reader::value-returns-in-Some-Record
+Reader::value-returns-in-Some-Record t c =
+    let own = c.args.self.now in
+    record_row (rows_of own.source.types.now) own.number own.source.bytes.now c.args.at c.record.result own.source.types.now.lawful c.in-Some-Record.members
+    (rw c.in-Some-Record.field-0-is at c.in-Some-Record.ensures) c.record.ensures
 
-pub value-returns-in-None : goal.value-returns-in-None
-value-returns-in-None t c = boolean_row (rows_of c.args.types.now) c.args.number c.args.bytes.now c.args.at c.boolean.result c.if-number-eq0.true c.boolean.ensures
+pub Reader::value-returns-in-Some-Union : goal.Reader::value-returns-in-Some-Union
+Reader::value-returns-in-Some-Union t c =
+    let own = c.args.self.now in
+    union_row (rows_of own.source.types.now) own.number own.source.bytes.now c.args.at c.union.result own.source.types.now.lawful c.in-Some-Union.members
+    (rw c.in-Some-Union.field-0-is at c.in-Some-Union.ensures) c.union.ensures
 
-pub value-returns-in-None-2 : goal.value-returns-in-None-2
-value-returns-in-None-2 t c =
-    integer_row (rows_of c.args.types.now) c.args.number c.args.bytes.now c.args.at c.integer.result
-    (row_missed (rows_of c.args.types.now) c.args.number c.requires c.in-None.ensures) c.if-number-eq0.false c.integer.ensures
+pub Reader::value-returns-in-None : goal.Reader::value-returns-in-None
+Reader::value-returns-in-None t c =
+    let own = c.args.self.now in
+    boolean_row (rows_of own.source.types.now) own.number own.source.bytes.now c.args.at c.boolean.result c.if-whole-eq0.true c.boolean.ensures
+
+pub Reader::value-returns-in-None-2 : goal.Reader::value-returns-in-None-2
+Reader::value-returns-in-None-2 t c =
+    let own = c.args.self.now in
+    integer_row (rows_of own.source.types.now) own.number own.source.bytes.now c.args.at c.integer.result
+    (row_missed (rows_of own.source.types.now) own.number own.declared c.in-None.ensures) c.if-whole-eq0.false c.integer.ensures
