@@ -26,6 +26,16 @@ struct Printer<'a> {
 }
 
 impl<'a> Printer<'a> {
+    // Takes the first N bytes; where there are fewer, none are left.
+    fn take<const N: usize>(&mut self) -> Option<&'a [u8; N]> {
+        let Some((front, rest)) = self.rest.split_first_chunk() else {
+            self.rest = &[];
+            return None;
+        };
+        self.rest = rest;
+        Some(front)
+    }
+
     // Writes the value at the front, which nests at most so deep. The text ends at bytes that are no value.
     #[cycle(shown_values)]
     fn value(&mut self, depth: u8) -> Result<(), Problem> {
@@ -57,11 +67,9 @@ impl<'a> Printer<'a> {
 
     #[cycle(shown_values)]
     fn array(&mut self, depth: u8) -> Result<(), Problem> {
-        let Some((&[_, a, b, c, d, e, f], rest)) = self.rest.split_first_chunk::<7>() else {
-            self.rest = &[];
+        let Some(&[_, a, b, c, d, e, f]) = self.take() else {
             return Ok(());
         };
-        self.rest = rest;
         write!(self.text, "[{}:", i32::from_be_bytes([a, b, c, d]))?;
         for i in 0..u16::from_be_bytes([e, f]) {
             self.text.push_str(if i == 0 { " " } else { ", " })?;
@@ -73,11 +81,9 @@ impl<'a> Printer<'a> {
 
     #[cycle(shown_values)]
     fn record(&mut self, depth: u8) -> Result<(), Problem> {
-        let Some((&[_, count], rest)) = self.rest.split_first_chunk::<2>() else {
-            self.rest = &[];
+        let Some(&[_, count]) = self.take() else {
             return Ok(());
         };
-        self.rest = rest;
         self.text.push_str("record [")?;
         for i in 0..count {
             write!(self.text, "{}{i}: ", if i == 0 { "" } else { ", " })?;
@@ -89,11 +95,9 @@ impl<'a> Printer<'a> {
 
     #[cycle(shown_values)]
     fn union(&mut self, depth: u8) -> Result<(), Problem> {
-        let Some((&[_, tag], rest)) = self.rest.split_first_chunk::<2>() else {
-            self.rest = &[];
+        let Some(&[_, tag]) = self.take() else {
             return Ok(());
         };
-        self.rest = rest;
         write!(self.text, "union [{tag}: ")?;
         self.value(depth)?;
         self.text.push_str("]")?;
