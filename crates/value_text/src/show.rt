@@ -67,7 +67,7 @@ impl<'a> Printer<'a> {
 
     #[cycle(shown_values)]
     fn array(&mut self, depth: u8) -> Result<(), Problem> {
-        let Some(&[_, a, b, c, d, e, f]) = self.take() else {
+        let Some(&[_, a, b, c, d, e, f]) = self.take::<7>() else {
             return Ok(());
         };
         write!(self.text, "[{}:", i32::from_be_bytes([a, b, c, d]))?;
@@ -81,7 +81,7 @@ impl<'a> Printer<'a> {
 
     #[cycle(shown_values)]
     fn record(&mut self, depth: u8) -> Result<(), Problem> {
-        let Some(&[_, count]) = self.take() else {
+        let Some(&[_, count]) = self.take::<2>() else {
             return Ok(());
         };
         self.text.push_str("record [")?;
@@ -95,7 +95,7 @@ impl<'a> Printer<'a> {
 
     #[cycle(shown_values)]
     fn union(&mut self, depth: u8) -> Result<(), Problem> {
-        let Some(&[_, tag]) = self.take() else {
+        let Some(&[_, tag]) = self.take::<2>() else {
             return Ok(());
         };
         write!(self.text, "union [{tag}: ")?;
