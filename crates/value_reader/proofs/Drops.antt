@@ -98,27 +98,32 @@ two_fit_there bs at fit = and_from _ _ (lt-ltb _ 256 (fit at).fits) (lt-ltb _ 25
 four_fit_there : (bs : List ℕ) (at : ℕ) → ((i : ℕ) → Fits w8 (get_or bs i 0)) → four_fit bs at ≡ true
 four_fit_there bs at fit = and_from _ _ (two_fit_there bs at fit) (and_from _ _ (lt-ltb _ 256 (fit (at + 2)).fits) (lt-ltb _ 256 (fit (at + 3)).fits))
 
--- The number of four bytes that were copied out, and that of two, as an array's body.
-module _ (bs : List ℕ) (at : ℕ) (fit : (i : ℕ) → Fits w8 (get_or bs i 0)) (room : at + 6 ≤ length bs)
-    (four : List ℕ) (same_four : four ≡ take 4 (drop at bs)) (two : List ℕ) (same_two : two ≡ take 2 (drop (at + 4) bs))
-    (low : ℤ) (first : low ≡ to_z w32 (from_four (get_or four 0 0) (get_or four 1 0) (get_or four 2 0) (get_or four 3 0))) (fits : SFits w32 low)
-    (count : ℕ) (second : count ≡ get_or two 0 0 * 256 + get_or two 1 0) where
+-- The number of four bytes that were copied out: proper, or the one that is not.
+module _ (bs : List ℕ) (at : ℕ) (fit : (i : ℕ) → Fits w8 (get_or bs i 0)) (room : at + 4 ≤ length bs) (four : List ℕ) (same : four ≡ take 4 (drop at bs))
+    (low : ℤ) (first : low ≡ to_z w32 (from_four (get_or four 0 0) (get_or four 1 0) (get_or four 2 0) (get_or four 3 0))) (fits : SFits w32 low) where
   word_there : low ≡ word_at bs at
-  word_there =
-      first ∙ ap (λ t. to_z w32 (from_four (get_or t 0 0) (get_or t 1 0) (get_or t 2 0) (get_or t 3 0))) (same_four ∙ ap (take 4) (four_drop bs at (omega arith)))
+  word_there = first ∙ ap (λ t. to_z w32 (from_four (get_or t 0 0) (get_or t 1 0) (get_or t 2 0) (get_or t 3 0))) (same ∙ ap (take 4) (four_drop bs at room))
 
-  pair_there : count ≡ pair_at bs (at + 4)
-  pair_there = second ∙ ap (λ t. get_or t 0 0 * 256 + get_or t 1 0) (same_two ∙ ap (take 2) (two_drop bs (at + 4) (omega arith)))
+  pub proper_there : (of_z w32 low ≡ 2147483648 → ⊥) → proper_at bs at ≡ true
+  proper_there h =
+      let test : lt_z (negsuc 2147483647) low ≡ true = grind (arith, ints) in
+      and_from _ _ (four_fit_there bs at fit) (ap (lt_z (negsuc 2147483647)) (sym word_there) ∙ test)
 
-  indexed_by : lt_z (negsuc 2147483647) low && ranged low count ≡ indexed_at bs at
-  indexed_by =
-      ap (λ z. lt_z (negsuc 2147483647) z && ranged z count) word_there ∙ ap (λ n. lt_z (negsuc 2147483647) (word_at bs at) && ranged (word_at bs at) n) pair_there
-      ∙ sym (ap (λ b. (b && lt_z (negsuc 2147483647) (word_at bs at)) && (two_fit bs (at + 4) && ranged (word_at bs at) (pair_at bs (at + 4)))) (four_fit_there bs at fit)
-      ∙ ap (λ b. lt_z (negsuc 2147483647) (word_at bs at) && (b && ranged (word_at bs at) (pair_at bs (at + 4)))) (two_fit_there bs (at + 4) fit))
+  least_there : of_z w32 low ≡ 2147483648 → proper_at bs at ≡ false
+  least_there h =
+      let test : lt_z (negsuc 2147483647) low ≡ false = grind (arith, ints) in
+      ap (λ b. b && lt_z (negsuc 2147483647) (word_at bs at)) (four_fit_there bs at fit) ∙ ap (lt_z (negsuc 2147483647)) (sym word_there) ∙ test
 
-  pub proper_indexed : (of_z w32 low ≡ 2147483648 → ⊥) → ranged (to_z w32 (of_z w32 low)) count ≡ indexed_at bs at
-  proper_indexed h =
-      ap (λ z. ranged z count) (to_z-of_z w32 low fits) ∙ ap (λ b. b && ranged low count) (sym (let test : lt_z (negsuc 2147483647) low ≡ true = grind (arith, ints) in test)) ∙ indexed_by
+  -- And of two behind them, as an array's body.
+  module _ (room' : at + 6 ≤ length bs) (two : List ℕ) (same' : two ≡ take 2 (drop (at + 4) bs)) (count : ℕ) (second : count ≡ get_or two 0 0 * 256 + get_or two 1 0) where
+    pair_there : count ≡ pair_at bs (at + 4)
+    pair_there = second ∙ ap (λ t. get_or t 0 0 * 256 + get_or t 1 0) (same' ∙ ap (take 2) (two_drop bs (at + 4) (omega arith)))
 
-  pub least_indexed : of_z w32 low ≡ 2147483648 → false ≡ indexed_at bs at
-  least_indexed h = ap (λ b. b && ranged low count) (sym (let test : lt_z (negsuc 2147483647) low ≡ false = grind (arith, ints) in test)) ∙ indexed_by
+    pub proper_indexed : (of_z w32 low ≡ 2147483648 → ⊥) → ranged (to_z w32 (of_z w32 low)) count ≡ indexed_at bs at
+    proper_indexed h =
+        ap (λ z. ranged z count) (to_z-of_z w32 low fits ∙ word_there) ∙ ap (ranged (word_at bs at)) pair_there
+        ∙ sym (ap (λ b. b && (two_fit bs (at + 4) && ranged (word_at bs at) (pair_at bs (at + 4)))) (proper_there h)
+        ∙ ap (λ b. b && ranged (word_at bs at) (pair_at bs (at + 4))) (two_fit_there bs (at + 4) fit))
+
+    pub least_indexed : of_z w32 low ≡ 2147483648 → false ≡ indexed_at bs at
+    least_indexed h = sym (ap (λ b. b && (two_fit bs (at + 4) && ranged (word_at bs at) (pair_at bs (at + 4)))) (least_there h))
