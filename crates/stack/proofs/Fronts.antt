@@ -4,7 +4,7 @@ use Rattle.numbers.specs.declared.number.Number.{Number}
 use Rattle.values.specs.Values.{encode, encode_row}
 use Rattle.stack.specs.declared.heads.Head.{Head}
 use Rattle.stack.specs.declared.heads.Head.TheVariants.{Array, Record, Union}
-use Rattle.stack.specs.Heads.{array_head, record_head, HeadsArray, HeadsRecord, HeadsUnion, IsHead}
+use Rattle.stack.specs.Heads.{array_head, record_head, HeadsArray, HeadsRecord, HeadsUnion, HeadsValues}
 
 array_heads : (low : Number) (count : ℕ) → HeadsArray low count
 unfolding encode
@@ -18,7 +18,7 @@ union_heads : (tag : ℕ) → HeadsUnion tag
 unfolding encode
 union_heads tag v = refl
 
-pub is_head : (head : Head) → IsHead head
-is_head (Array low count) = array_heads low count
-is_head (Record count) = record_heads count
-is_head (Union tag) = union_heads tag
+pub heads_values : (head : Head) → HeadsValues head
+heads_values (Array low count) = array_heads low count
+heads_values (Record count) = record_heads count
+heads_values (Union tag) = union_heads tag

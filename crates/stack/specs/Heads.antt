@@ -36,7 +36,7 @@ head_bytes (Record count) = record_head count
 head_bytes (Union tag) = union_head tag
 
 -- The bytes of every value with this head are the head and then the parts.
-abbrev pub IsHead : Head → Type 0
-IsHead (Array low count) = HeadsArray low count
-IsHead (Record count) = HeadsRecord count
-IsHead (Union tag) = HeadsUnion tag
+abbrev pub HeadsValues : Head → Type 0
+HeadsValues (Array low count) = HeadsArray low count
+HeadsValues (Record count) = HeadsRecord count
+HeadsValues (Union tag) = HeadsUnion tag

@@ -1,5 +1,5 @@
 ghost use Rattle.value_reader.specs.Scalars.{Laid};
-ghost use Rattle.stack.specs.Heads.{head_bytes, IsHead};
+ghost use Rattle.stack.specs.Heads.{head_bytes, HeadsValues};
 
 use numbers::Number;
 use value_reader::{Kind, lay_bytes};
@@ -17,7 +17,7 @@ pub enum Head {
 // Lays the head of a composed value at the top, if it fits, and answers the new top.
 pub fn lay_head(store: &mut [u8], top: usize, head: Head) -> Option<usize>
     ensures laid { Laid store.old store.new top (head_bytes head) result }
-    ensures heads { IsHead head }
+    ensures heads { HeadsValues head }
 {
     match head {
         Head::Array { low, count } => {

@@ -64,8 +64,8 @@ as_exact (Some t) bs at end = (
   (λ h. let e = h.1 in let same : h.0 ≡ t = cc in subst (λ u. Holds u bs at end → read t bs at ≡ Ok end) (sym same) (read_exact t bs at end).1 h.2),
 )
 as_exact None bs at end = (
-  (λ h. absurd (let z : ◌≡◌ {A = ℕ} 0 1 = cc in let y : ⊥ = omega arith in y)),
-  (λ h. let e = h.1 in absurd (let z : ◌≡◌ {A = ℕ} 0 1 = cc in let y : ⊥ = omega arith in y)),
+  (λ h. absurd (let y : ⊥ = cc in y)),
+  (λ h. let e = h.1 in absurd (let y : ⊥ = cc in y)),
 )
 
 pub number_exact : (rows : List Row) (n : ℕ) (bs : List ℕ) (at : ℕ) → Exact (read_number rows n bs at) (HoldsNumber rows n bs at)

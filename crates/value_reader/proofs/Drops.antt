@@ -4,7 +4,7 @@ use borrow.Author.Differences.{ints}
 use lib.Signed.{lt_z}
 use lib.Seq.{drop-append_seam}
 use Rattle.std.proofs.lemmas.List.{drop_more}
-use Rattle.std.proofs.lemmas.Int.{of_z-to_z}
+use Rattle.std.proofs.lemmas.Int.{of_z-to_z, to_z-of_z}
 use Rattle.std.proofs.lemmas.Bool.{and_from, and_parts, lt-ltb, ltb-true}
 use Rattle.numbers.specs.declared.number.Number.{Number}
 use Rattle.values.specs.Values.{two_bytes, four_bytes, word}
@@ -91,32 +91,39 @@ proper_number bs at h =
     let n = number_of (word_at bs at) p.1 (word_high (from_four (byte bs at) (byte bs (at + 1)) (byte bs (at + 2)) (byte bs (at + 3))) (omega arith)) in
     (n.0, n.1, ap word n.1 ∙ word_of _ _ _ _ a b c d)
 
--- Numbers of bytes that were copied out.
-pub word_read : (bs xs : List ℕ) (at : ℕ) → at + 4 ≤ length bs → xs ≡ take 4 (drop at bs)
-    → to_z w32 (from_four (get_or xs 0 0) (get_or xs 1 0) (get_or xs 2 0) (get_or xs 3 0)) ≡ word_at bs at
-word_read bs xs at h e = ap (λ t. to_z w32 (from_four (get_or t 0 0) (get_or t 1 0) (get_or t 2 0) (get_or t 3 0))) (e ∙ ap (take 4) (four_drop bs at h))
-
-pub pair_read : (bs xs : List ℕ) (at : ℕ) → at + 2 ≤ length bs → xs ≡ take 2 (drop at bs) → get_or xs 0 0 * 256 + get_or xs 1 0 ≡ pair_at bs at
-pair_read bs xs at h e = ap (λ t. get_or t 0 0 * 256 + get_or t 1 0) (e ∙ ap (take 2) (two_drop bs at h))
-
 -- Bytes are bytes.
-pub two_fit_there : (bs : List ℕ) (at : ℕ) → ((i : ℕ) → Fits w8 (get_or bs i 0)) → two_fit bs at ≡ true
+two_fit_there : (bs : List ℕ) (at : ℕ) → ((i : ℕ) → Fits w8 (get_or bs i 0)) → two_fit bs at ≡ true
 two_fit_there bs at fit = and_from _ _ (lt-ltb _ 256 (fit at).fits) (lt-ltb _ 256 (fit (at + 1)).fits)
 
-pub four_fit_there : (bs : List ℕ) (at : ℕ) → ((i : ℕ) → Fits w8 (get_or bs i 0)) → four_fit bs at ≡ true
+four_fit_there : (bs : List ℕ) (at : ℕ) → ((i : ℕ) → Fits w8 (get_or bs i 0)) → four_fit bs at ≡ true
 four_fit_there bs at fit = and_from _ _ (two_fit_there bs at fit) (and_from _ _ (lt-ltb _ 256 (fit (at + 2)).fits) (lt-ltb _ 256 (fit (at + 3)).fits))
 
--- The body of an array, by its two numbers.
-module _ (bs : List ℕ) (at : ℕ) (low : ℤ) (count : ℕ) (fit : (i : ℕ) → Fits w8 (get_or bs i 0)) (first : low ≡ word_at bs at) (second : count ≡ pair_at bs (at + 4)) where
-  pub indexed_by : lt_z (negsuc 2147483647) low && ranged low count ≡ indexed_at bs at
-  indexed_by =
-      ap (λ z. lt_z (negsuc 2147483647) z && ranged z count) first ∙ ap (λ n. lt_z (negsuc 2147483647) (word_at bs at) && ranged (word_at bs at) n) second
-      ∙ sym (ap (λ b. (b && lt_z (negsuc 2147483647) (word_at bs at)) && (two_fit bs (at + 4) && ranged (word_at bs at) (pair_at bs (at + 4)))) (four_fit_there bs at fit)
-      ∙ ap (λ b. lt_z (negsuc 2147483647) (word_at bs at) && (b && ranged (word_at bs at) (pair_at bs (at + 4)))) (two_fit_there bs (at + 4) fit))
+-- The number of four bytes that were copied out: proper, or the one that is not.
+module _ (bs : List ℕ) (at : ℕ) (fit : (i : ℕ) → Fits w8 (get_or bs i 0)) (room : at + 4 ≤ length bs) (four : List ℕ) (same : four ≡ take 4 (drop at bs))
+    (low : ℤ) (first : low ≡ to_z w32 (from_four (get_or four 0 0) (get_or four 1 0) (get_or four 2 0) (get_or four 3 0))) (fits : SFits w32 low) where
+  word_there : low ≡ word_at bs at
+  word_there = first ∙ ap (λ t. to_z w32 (from_four (get_or t 0 0) (get_or t 1 0) (get_or t 2 0) (get_or t 3 0))) (same ∙ ap (take 4) (four_drop bs at room))
 
--- The test of the number that is not proper.
-pub not_least : (z : ℤ) → SFits w32 z → (of_z w32 z ≡ 2147483648 → ⊥) → lt_z (negsuc 2147483647) z ≡ true
-not_least z fits h = grind (arith, ints)
+  pub proper_there : (of_z w32 low ≡ 2147483648 → ⊥) → proper_at bs at ≡ true
+  proper_there h =
+      let test : lt_z (negsuc 2147483647) low ≡ true = grind (arith, ints) in
+      and_from _ _ (four_fit_there bs at fit) (ap (lt_z (negsuc 2147483647)) (sym word_there) ∙ test)
 
-pub is_least : (z : ℤ) → SFits w32 z → of_z w32 z ≡ 2147483648 → lt_z (negsuc 2147483647) z ≡ false
-is_least z fits h = grind (arith, ints)
+  least_there : of_z w32 low ≡ 2147483648 → proper_at bs at ≡ false
+  least_there h =
+      let test : lt_z (negsuc 2147483647) low ≡ false = grind (arith, ints) in
+      ap (λ b. b && lt_z (negsuc 2147483647) (word_at bs at)) (four_fit_there bs at fit) ∙ ap (lt_z (negsuc 2147483647)) (sym word_there) ∙ test
+
+  -- And of two behind them, as an array's body.
+  module _ (room' : at + 6 ≤ length bs) (two : List ℕ) (same' : two ≡ take 2 (drop (at + 4) bs)) (count : ℕ) (second : count ≡ get_or two 0 0 * 256 + get_or two 1 0) where
+    pair_there : count ≡ pair_at bs (at + 4)
+    pair_there = second ∙ ap (λ t. get_or t 0 0 * 256 + get_or t 1 0) (same' ∙ ap (take 2) (two_drop bs (at + 4) (omega arith)))
+
+    pub proper_indexed : (of_z w32 low ≡ 2147483648 → ⊥) → ranged (to_z w32 (of_z w32 low)) count ≡ indexed_at bs at
+    proper_indexed h =
+        ap (λ z. ranged z count) (to_z-of_z w32 low fits ∙ word_there) ∙ ap (ranged (word_at bs at)) pair_there
+        ∙ sym (ap (λ b. b && (two_fit bs (at + 4) && ranged (word_at bs at) (pair_at bs (at + 4)))) (proper_there h)
+        ∙ ap (λ b. b && ranged (word_at bs at) (pair_at bs (at + 4))) (two_fit_there bs (at + 4) fit))
+
+    pub least_indexed : of_z w32 low ≡ 2147483648 → false ≡ indexed_at bs at
+    least_indexed h = sym (ap (λ b. b && (two_fit bs (at + 4) && ranged (word_at bs at) (pair_at bs (at + 4)))) (least_there h))

@@ -8,19 +8,19 @@ use Rattle.value_reader.specs.Reading.{Verdict, given, and_then, admitted, fault
 
 pub given_inv : {A : Type 0} (b : Bool) (e : Refusal) (r : Result A Refusal) (x : A) → given b e r ≡ Ok x → (b ≡ true) × (r ≡ Ok x)
 given_inv true e r x h = (refl, h)
-given_inv false e r x h = absurd (let z : ◌≡◌ {A = ℕ} 0 1 = cc in let y : ⊥ = omega arith in y)
+given_inv false e r x h = absurd (let y : ⊥ = cc in y)
 
 pub given_ok : {A : Type 0} (b : Bool) (e : Refusal) (r : Result A Refusal) → b ≡ true → given b e r ≡ r
 given_ok b e r h = ap (λ t. given t e r) h
 
 pub then_inv : (v : Verdict) (f : ℕ → Verdict) (end : ℕ) → and_then v f ≡ Ok end → (q : ℕ) × (v ≡ Ok q) × (f q ≡ Ok end)
 then_inv (Ok q) f end h = (q, refl, h)
-then_inv (Err e) f end h = absurd (let z : ◌≡◌ {A = ℕ} 0 1 = cc in let y : ⊥ = omega arith in y)
+then_inv (Err e) f end h = absurd (let y : ⊥ = cc in y)
 
 pub after_inv : (o : Result (Option ℕ) Refusal) (body : Verdict) (end : ℕ) → after o body ≡ Ok end → (o ≡ Ok (Some end)) ⊎ ((o ≡ Ok None) × (body ≡ Ok end))
 after_inv (Ok None) body end h = inr (refl, h)
 after_inv (Ok (Some q)) body end h = inl (ap Ok (ap Some (let z : q ≡ end = cc in z)))
-after_inv (Err e) body end h = absurd (let z : ◌≡◌ {A = ℕ} 0 1 = cc in let y : ⊥ = omega arith in y)
+after_inv (Err e) body end h = absurd (let y : ⊥ = cc in y)
 
 cond_inv : {A : Type 0} (b : Bool) (x y z : A) → cond b x y ≡ z → ((b ≡ true) × (x ≡ z)) ⊎ ((b ≡ false) × (y ≡ z))
 cond_inv true x y z h = inl (refl, h)
@@ -33,7 +33,7 @@ module _ (own size : ℕ) (arithmetic : Bool) (bs : List ℕ) (at : ℕ) where
       let p = given_inv (leb (at + 2) (length bs)) (Cut at) _ None h in
       let q = given_inv (admitted arithmetic (byte bs (at + 1))) (Clash at) (Ok (Some (at + 2))) None p.1 in
       let e = q.1 in
-      (let z : ◌≡◌ {A = ℕ} 0 1 = cc in omega arith)
+      (let y : ⊥ = cc in y)
 
   pub opens_own : opens own size arithmetic bs at ≡ Ok None → (at < length bs) × (byte bs at ≡ own) × (at + size ≤ length bs)
   opens_own h =
@@ -61,7 +61,7 @@ module _ (own size : ℕ) (arithmetic : Bool) (bs : List ℕ) (at : ℕ) where
       let q = given_inv (eqb (byte bs at) own) (Clash at) _ (Some end) k.1 in
       let r = given_inv (leb (at + size) (length bs)) (Cut at) (Ok None) (Some end) q.1 in
       let e = r.1 in
-      absurd (let z : ◌≡◌ {A = ℕ} 0 1 = cc in let y : ⊥ = omega arith in y))
+      absurd (let y : ⊥ = cc in y))
       (cond_inv (eqb (byte bs at) 0x52) _ _ _ p.1)
 
   -- The head of a record that is accepted.

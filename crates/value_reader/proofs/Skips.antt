@@ -16,7 +16,7 @@ headed bs at = ltb at (length bs) && (ltb 0 (long_of (byte bs at)) && leb (at + 
 
 head_by : (b : Bool) (h k : Head) → Some h ≡ cond b (Some k) None → (b ≡ true) × (h ≡ k)
 head_by true h k e = (refl, cc)
-head_by false h k e = absurd (let z : ◌≡◌ {A = ℕ} 0 1 = cc in let y : ⊥ = omega arith in y)
+head_by false h k e = absurd (let y : ⊥ = cc in y)
 
 head_within : (bs : List ℕ) (at : ℕ) (h : Head) → Some h ≡ head_at bs at → at < length bs
 head_within bs at h e = ltb-true at (length bs) (and_parts (ltb at (length bs)) _ (head_by (headed bs at) h _ e).0).0

@@ -231,6 +231,6 @@ mutual
       (Values.◌then◌ v.0 vs.0, (v.1, vs.1), ap suc vs.2, join bs (encode v.0) (encode_row vs.0) at m.0 end v.2 vs.3)
 
   sound_chosen : (ts : Trees) (tag : ℕ) (bs : List ℕ) (at end : ℕ) → chosen ts tag bs at ≡ Ok end → (v : Value) × OneOf ts tag v × Span bs (at + 2) (encode v) end
-  sound_chosen Trees.none tag bs at end h = absurd (let z : ◌≡◌ {A = ℕ} 0 1 = cc in let y : ⊥ = omega arith in y)
+  sound_chosen Trees.none tag bs at end h = absurd (let y : ⊥ = cc in y)
   sound_chosen (Trees.◌then◌ t ts) zero bs at end h = sound_read t bs (at + 2) end h
   sound_chosen (Trees.◌then◌ t ts) (suc tag) bs at end h = sound_chosen ts tag bs at end h

@@ -1,6 +1,7 @@
 -- The steps of the reader.
 use Rattle.std.proofs.Common.{◌≡◌, ℕ, zero, suc, ◌+◌, ◌-◌, ◌<◌, ◌≤◌, Bool, true, false, cond, ltb, List, [], ◌∷◌, length, get_or, drop, Some, None, Ok, Err, Option, sym, refl, ap, ◌∙◌, arith}
 use Rattle.std.proofs.lemmas.List.{drop_more, drop_all}
+use Rattle.std.proofs.lemmas.Option.{slice_get-get_or, slice_get_within, get_or_from_slice_get}
 use Rattle.std.proofs.lemmas.Bool.{and_parts, ltb-true, ltb-false}
 use Rattle.std.specs.List.{slice_get}
 use Rattle.values.specs.declared.refusal.Refusal.{Refusal}
@@ -15,14 +16,9 @@ use Rattle.values.proofs.Grown.{table_row, table_boolean, table_integer}
 use Rattle.value_reader.specs.Bytes.{byte}
 use Rattle.value_reader.specs.Reading.{Verdict, and_then, after, opens, boolean_at, integer_at, array_at, record_at, union_at, repeated, read, reads, chosen, count_of}
 
--- What stands at a place.
-pub nth_here : {X : Type 0} (xs : List X) (i : ℕ) (x d : X) → slice_get xs i ≡ Some x → (i < length xs) × (get_or xs i d ≡ x)
-nth_here [] i x d e = absurd (let z : ◌≡◌ {A = ℕ} 0 1 = cc in let y : ⊥ = omega arith in y)
-nth_here (y ∷ xs) zero x d e = (omega arith, cc)
-nth_here (y ∷ xs) (suc i) x d e = let k = nth_here xs i x d e in (omega (arith, k.0), k.1)
-
+-- A member below a limit.
 pub nth_below : (limit : ℕ) (ns : List ℕ) (i n : ℕ) → all_below limit ns ≡ true → slice_get ns i ≡ Some n → n < limit
-nth_below limit [] i n h e = absurd (let z : ◌≡◌ {A = ℕ} 0 1 = cc in let y : ⊥ = omega arith in y)
+nth_below limit [] i n h e = absurd (let y : ⊥ = cc in y)
 nth_below limit (m ∷ ns) zero n h e =
     let p = and_parts (ltb m limit) (all_below limit ns) h in
     let same : m ≡ n = cc in
@@ -32,14 +28,14 @@ nth_below limit (m ∷ ns) (suc i) n h e = nth_below limit ns i n (and_parts (lt
 -- The constituent that a tag names.
 pub chosen_some : (below : List Tree) (ns : List ℕ) (tag n : ℕ) (bs : List ℕ) (at : ℕ) → slice_get ns tag ≡ Some n → chosen (trees_of below ns) tag bs at ≡ read (get_or below n Tree.boolean) bs (at + 2)
 unfolding read
-chosen_some below [] tag n bs at e = absurd (let z : ◌≡◌ {A = ℕ} 0 1 = cc in let y : ⊥ = omega arith in y)
+chosen_some below [] tag n bs at e = absurd (let y : ⊥ = cc in y)
 chosen_some below (m ∷ ns) zero n bs at e = let same : m ≡ n = cc in ap (λ k. read (get_or below k Tree.boolean) bs (at + 2)) same
 chosen_some below (m ∷ ns) (suc tag) n bs at e = chosen_some below ns tag n bs at e
 
 pub chosen_none : (below : List Tree) (ns : List ℕ) (tag : ℕ) (bs : List ℕ) (at : ℕ) → slice_get ns tag ≡ None → chosen (trees_of below ns) tag bs at ≡ Err (Clash at)
 unfolding read
 chosen_none below [] tag bs at e = refl
-chosen_none below (m ∷ ns) zero bs at e = absurd (let z : ◌≡◌ {A = ℕ} 0 1 = cc in let y : ⊥ = omega arith in y)
+chosen_none below (m ∷ ns) zero bs at e = absurd (let y : ⊥ = cc in y)
 chosen_none below (m ∷ ns) (suc tag) bs at e = chosen_none below ns tag bs at e
 
 pub trees_count : (below : List Tree) (ns : List ℕ) → count_of (trees_of below ns) ≡ length ns
@@ -89,15 +85,14 @@ module _ (below : List Tree) (ns : List ℕ) (bs : List ℕ) (at : ℕ) (o : Opt
 
 -- A row of a table, found by its number.
 found_by : (rows : List Row) (n : ℕ) (r : Row) (b : Bool) → Some r ≡ cond b None (slice_get rows (n - 2)) → (b ≡ false) × (slice_get rows (n - 2) ≡ Some r)
-found_by rows n r true e = absurd (let z : ◌≡◌ {A = ℕ} 0 1 = cc in let y : ⊥ = omega arith in y)
+found_by rows n r true e = absurd (let y : ⊥ = cc in y)
 found_by rows n r false e = (refl, sym e)
 
 pub row_found : (rows : List Row) (n : ℕ) (r : Row) → sound rows ≡ true → Some r ≡ row_of rows n
     → (tree_at rows n ≡ tree (table rows) r) × (all_below n (uses r) ≡ true)
 row_found rows n r s e =
     let f = found_by rows n r (ltb n 2) e in
-    let k = nth_here rows (n - 2) r r f.1 in
-    table_row rows n r s (ltb-false n 2 f.0) k.0 (sym k.1)
+    table_row rows n r s (ltb-false n 2 f.0) (slice_get_within rows (n - 2) r f.1) (sym (get_or_from_slice_get rows (n - 2) r r f.1))
 
 -- An array's element has a lower number.
 pub element_lower : (rows : List Row) (n element : ℕ) → sound rows ≡ true → Some (Array element) ≡ row_of rows n → element < n
@@ -125,15 +120,8 @@ missed_by : (rows : List Row) (n : ℕ) (b : Bool) → b ≡ ltb n 2 → n < 2 +
 missed_by rows n true b h e = ltb-true n 2 (sym b)
 missed_by rows n false b h e =
     let two = ltb-false n 2 (sym b) in
-    absurd (let z : ◌≡◌ {A = ℕ} 0 1 = none_some (slice_get rows (n - 2)) (nth_there rows (n - 2) (omega (arith, two))) (sym e) in let y : ⊥ = omega arith in y)
-  where
-    nth_there : (rows : List Row) (i : ℕ) → i < length rows → (r : Row) × (slice_get rows i ≡ Some r)
-    nth_there [] i h = absurd (let y : ⊥ = omega arith in y)
-    nth_there (r ∷ rows) zero h = (r, refl)
-    nth_there (r ∷ rows) (suc i) h = nth_there rows i (omega arith)
-
-    none_some : (o : Option Row) → ((r : Row) × (o ≡ Some r)) → o ≡ None → ◌≡◌ {A = ℕ} 0 1
-    none_some o s n = let r = s.0 in let e : o ≡ Some r = s.1 in cc
+    let there = slice_get-get_or rows (n - 2) (Array 0) (omega (arith, two)) in
+    absurd (let y : ⊥ = cc in y)
 
 pub row_missed : (rows : List Row) (n : ℕ) → n < 2 + length rows → None ≡ row_of rows n → n < 2
 row_missed rows n h e = missed_by rows n (ltb n 2) refl h e

@@ -13,10 +13,8 @@ fn fault(bytes: &[u8], at: usize, own: Kind) -> Result<usize, Refusal>
         (λ end. fault_at (is_arithmetic own) bytes.now at ≡ Ok (Some end))
         (λ refusal. fault_at (is_arithmetic own) bytes.now at ≡ Err refusal) }
 {
-    if bytes.len() - at < 2 {
-        return Err(Refusal::Cut(at));
-    }
-    match Fault::try_from(bytes[at + 1]) {
+    let &code = bytes.get(at + 1).ok_or(Refusal::Cut(at))?;
+    match Fault::try_from(code) {
         Ok(fault) if own.admits(fault) => Ok(at + 2),
         _ => Err(Refusal::Clash(at)),
     }
@@ -28,10 +26,8 @@ pub(crate) fn begin(bytes: &[u8], at: usize, own: Kind) -> Result<Option<usize>,
     ensures opens { result ≡ opens (code_of own) (head_size own) (is_arithmetic own) bytes.now at }
     ensures whole { result ≡ Ok None → at + head_size own ≤ length bytes.now }
 {
-    if at >= bytes.len() {
-        return Err(Refusal::Cut(bytes.len()));
-    }
-    let kind = Kind::try_from(bytes[at]).map_err(|_| Refusal::Clash(at))?;
+    let &first = bytes.get(at).ok_or(Refusal::Cut(bytes.len()))?;
+    let kind = Kind::try_from(first).map_err(|_| Refusal::Clash(at))?;
     if kind == Kind::Error {
         return Ok(Some(fault(bytes, at, own)?));
     }

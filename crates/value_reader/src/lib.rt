@@ -1,4 +1,6 @@
 // Reads bytes as values of a type: front to back, with the first failure as the answer.
+// Functions take all the bytes and an offset, since a refusal names the offset from the front: a slice of the rest would
+// have to carry it besides.
 #![tactic(auto)]
 
 mod bodies;

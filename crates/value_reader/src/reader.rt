@@ -10,8 +10,7 @@ use crate::heads::begin;
 use crate::kind::Kind;
 use values::{Members, Refusal, Row, Types};
 
-// A table of types, and bytes that are read as values of its types. Offsets count from the front of all the bytes, since
-// refusals name them: readers of what is left would have to carry the count besides.
+// A table of types, and bytes that are read as values of its types.
 #[derive(Clone, Copy)]
 struct Source<'a> {
     types: &'a Types,

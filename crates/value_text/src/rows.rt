@@ -2,7 +2,8 @@ use crate::problem::Problem;
 use std::alloc::Global;
 use values::{Members, Row, RowError, Types};
 
-// Rows as array:T, record:T,T,.. and union:T,T,.., parted by `/`; `-` stands for no rows.
+// Rows as array:T, record:T,T,.. and union:T,T,.., parted by `/`; `-` stands for no rows. This is no FromStr, since a
+// table takes the allocator, and rows are types of another crate.
 pub fn parse_types(heap: Global, text: &str) -> Result<Types, Problem> {
     let mut types = Types::new(heap);
     if text == "-" {
@@ -32,6 +33,7 @@ fn parse_row(part: &str, place: usize) -> Result<Row, Problem> {
     row.ok_or(Problem::NoMembers { place })
 }
 
+// The array and the count beside it are what Members::new takes, which refuses more than eight.
 fn parse_members(text: &str) -> Option<Members> {
     let mut numbers = [0; 8];
     for (number, word) in numbers.iter_mut().zip(text.split(',')) {

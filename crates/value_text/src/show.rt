@@ -1,6 +1,7 @@
 use crate::problem::Problem;
 use numbers::{Boolean, Integer};
 use std::alloc::Global;
+use std::fmt;
 use std::fmt::Display;
 use value_reader::{Kind, Scalar};
 
@@ -9,26 +10,42 @@ const DEEPEST: u8 = 64;
 
 // A value as VAL writes it, from bytes that read as one.
 pub fn show_value(heap: Global, bytes: &[u8]) -> Result<String, Problem> {
-    let mut printer = Printer {
-        rest: bytes,
-        text: String::new(heap),
-    };
-    printer.value(DEEPEST)?;
-    let Printer { text, .. } = printer;
-    Ok(text)
+    Ok(Shown(bytes).to_string(heap)?)
 }
 
-// The bytes that are not written yet, and the text so far.
+// Bytes that read as a value, to be written as VAL writes it.
+#[derive(Clone, Copy)]
+struct Shown<'a>(&'a [u8]);
+
+impl Display for Shown<'_> {
+    fn fmt<W: fmt::Write>(&self, f: &mut fmt::Formatter<W>) -> fmt::Result {
+        let mut printer = Printer { rest: self.0, f };
+        printer.value(DEEPEST)
+    }
+}
+
+// The bytes that are not written yet, and where they are written. The text ends at bytes that are no value. Parts are
+// counted, not indexed: each begins where the last one ended.
 #[derive(Drop)]
-struct Printer<'a> {
+struct Printer<'a, 'f, W: fmt::Write> {
     rest: &'a [u8],
-    text: String,
+    f: &'f mut fmt::Formatter<W>,
 }
 
-impl<'a> Printer<'a> {
-    // Writes the value at the front, which nests at most so deep. The text ends at bytes that are no value.
+impl<'a, W: fmt::Write> Printer<'a, '_, W> {
+    // Takes the first N bytes; where there are fewer, none are left.
+    fn take<const N: usize>(&mut self) -> Option<&'a [u8; N]> {
+        let Some((front, rest)) = self.rest.split_first_chunk() else {
+            self.rest = &[];
+            return None;
+        };
+        self.rest = rest;
+        Some(front)
+    }
+
+    // Writes the value at the front, which nests at most so deep.
     #[cycle(shown_values)]
-    fn value(&mut self, depth: u8) -> Result<(), Problem> {
+    fn value(&mut self, depth: u8) -> fmt::Result {
         let (Some(inner), Some(&first)) = (depth.checked_sub(1), self.rest.first()) else {
             self.rest = &[];
             return Ok(());
@@ -47,56 +64,47 @@ impl<'a> Printer<'a> {
         }
     }
 
-    fn scalar<S: Scalar + Display>(&mut self, kind: Kind) -> Result<(), Problem> {
+    fn scalar<S: Scalar + Display>(&mut self, kind: Kind) -> fmt::Result {
         if let Some(scalar) = S::read(self.rest, 0) {
-            write!(self.text, "{scalar}")?;
+            write!(self.f, "{scalar}")?;
         }
         self.rest = self.rest.get(kind.head_size()..).unwrap_or(&[]);
         Ok(())
     }
 
     #[cycle(shown_values)]
-    fn array(&mut self, depth: u8) -> Result<(), Problem> {
-        let Some((&[_, a, b, c, d, e, f], rest)) = self.rest.split_first_chunk::<7>() else {
-            self.rest = &[];
+    fn array(&mut self, depth: u8) -> fmt::Result {
+        let Some(&[_, a, b, c, d, e, f]) = self.take::<7>() else {
             return Ok(());
         };
-        self.rest = rest;
-        write!(self.text, "[{}:", i32::from_be_bytes([a, b, c, d]))?;
+        write!(self.f, "[{}:", i32::from_be_bytes([a, b, c, d]))?;
         for i in 0..u16::from_be_bytes([e, f]) {
-            self.text.push_str(if i == 0 { " " } else { ", " })?;
+            self.f.write_str(if i == 0 { " " } else { ", " })?;
             self.value(depth)?;
         }
-        self.text.push_str("]")?;
-        Ok(())
+        self.f.write_str("]")
     }
 
     #[cycle(shown_values)]
-    fn record(&mut self, depth: u8) -> Result<(), Problem> {
-        let Some((&[_, count], rest)) = self.rest.split_first_chunk::<2>() else {
-            self.rest = &[];
+    fn record(&mut self, depth: u8) -> fmt::Result {
+        let Some(&[_, count]) = self.take::<2>() else {
             return Ok(());
         };
-        self.rest = rest;
-        self.text.push_str("record [")?;
+        self.f.write_str("record [")?;
         for i in 0..count {
-            write!(self.text, "{}{i}: ", if i == 0 { "" } else { ", " })?;
+            write!(self.f, "{}{i}: ", if i == 0 { "" } else { ", " })?;
             self.value(depth)?;
         }
-        self.text.push_str("]")?;
-        Ok(())
+        self.f.write_str("]")
     }
 
     #[cycle(shown_values)]
-    fn union(&mut self, depth: u8) -> Result<(), Problem> {
-        let Some((&[_, tag], rest)) = self.rest.split_first_chunk::<2>() else {
-            self.rest = &[];
+    fn union(&mut self, depth: u8) -> fmt::Result {
+        let Some(&[_, tag]) = self.take::<2>() else {
             return Ok(());
         };
-        self.rest = rest;
-        write!(self.text, "union [{tag}: ")?;
+        write!(self.f, "union [{tag}: ")?;
         self.value(depth)?;
-        self.text.push_str("]")?;
-        Ok(())
+        self.f.write_str("]")
     }
 }

@@ -1,7 +1,4 @@
-use Rattle.std.proofs.Common.{◌≡◌, ◌+◌, ◌*◌, ◌<◌, ◌≤◌, Some, length, refl, arith, rules, subst}
-use Rattle.values.specs.Values.{encodes}
-use Rattle.value_reader.specs.Scalars.{Laid}
-use Rattle.stack.specs.Undefs.{undefs}
+use Rattle.std.proofs.Common.{◌+◌, ◌*◌, ◌<◌, ◌≤◌, length, refl, arith, rules}
 use Rattle.stack.proofs.Undefs.{undefs_long, none_laid, one_laid, room_for_one}
 use Rattle.stack.proofs.scalars.lay_undefs.Goals as goal
 
@@ -22,8 +19,3 @@ returns-in_err-end c =
 
 pub loop-preserved : goal.loop-preserved
 loop-preserved c = one_laid c.args.store.now c.loop.store c.args.top c.loop.counter c.loop.end c.loop.invariant _ _ c.loop.auto.store c.in_ok-end.ensures
-
-pub returns : goal.returns
-returns c =
-    let all : c.loop.counter ≡ c.args.count = omega arith in
-    subst (λ n. Laid c.args.store.now c.loop.store c.args.top (encodes (undefs n)) (Some c.loop.end)) all c.loop.invariant

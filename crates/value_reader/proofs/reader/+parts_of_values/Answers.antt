@@ -3,15 +3,10 @@ use Rattle.std.proofs.lemmas.Result.{err_from_is_err_and}
 use Rattle.values.specs.Tables.{rows_of}
 use Rattle.values.specs.Rows.{used, table}
 use Rattle.value_reader.specs.Bytes.{byte}
-use Rattle.value_reader.proofs.Steps.{nth_below, element_lower, repeated_fails, repeated_next, reads_fails, reads_next, reads_none, union_some, union_none, array_row, record_row, union_row, row_found, row_missed, boolean_row, integer_row}
+use Rattle.value_reader.proofs.Steps.{nth_below, element_lower, repeated_next, reads_fails, reads_next, reads_none, union_some, union_none, array_row, record_row, union_row, row_found, row_missed, boolean_row, integer_row}
 use Rattle.value_reader.proofs.reader.+parts_of_values.Goals as goal
 
 -- Reader::values
-
-pub Reader::values-returns-in_err-end : goal.Reader::values-returns-in_err-end
-Reader::values-returns-in_err-end t c =
-    let p = err_from_is_err_and c.from_residual.result c.from_residual.ensures.1 in
-    rw (p.1, p.2) (repeated_fails c.args.count c.loop.counter _ c.loop.end _ c.loop-test.true c.loop.invariant _ c.in_err-end.ensures)
 
 pub Reader::values-loop-preserved : goal.Reader::values-loop-preserved
 Reader::values-loop-preserved t c = repeated_next c.args.count c.loop.counter _ c.loop.end _ c.loop-test.true c.loop.invariant _ c.in_ok-end.ensures

@@ -2,13 +2,13 @@ use Rattle.std.proofs.Common.{◌+◌, ◌*◌}
 use Rattle.value_text.proofs.show.Printer.+shown_values.Given as goal
 
 abbrev pub decreases-value : goal.decreases-value
-decreases-value l = 2 * l.depth
+decreases-value g l = 2 * l.depth
 
 abbrev pub decreases-array : goal.decreases-array
-decreases-array l = 2 * l.depth + 1
+decreases-array g l = 2 * l.depth + 1
 
 abbrev pub decreases-record : goal.decreases-record
-decreases-record l = 2 * l.depth + 1
+decreases-record g l = 2 * l.depth + 1
 
 abbrev pub decreases-union : goal.decreases-union
-decreases-union l = 2 * l.depth + 1
+decreases-union g l = 2 * l.depth + 1
