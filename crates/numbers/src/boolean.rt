@@ -3,7 +3,7 @@ ghost use Rattle.numbers.specs.Booleans.{both, either, inverse, is_error, is_fau
 
 use crate::fault::{BasicFault, Fault};
 
-// A truth value or one of the two error values that a boolean has.
+// A truth value or one of the two error values that a boolean has: an enum beside Integer, each with its own operations.
 #[derive(Clone, Copy, Debug, PartialEq, Eq)]
 pub enum Boolean {
     Proper(bool),

@@ -22,6 +22,7 @@ impl Fault {
     }
 }
 
+// Display is by hand, since a derive's text has no contract.
 impl fmt::Display for Fault {
     ghost output = { λ fault. Some (word_of fault) };
 

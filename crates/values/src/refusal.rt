@@ -89,6 +89,7 @@ impl Refusal {
     }
 }
 
+// Display and the conversions are by hand, since what a derive writes has no contract.
 impl fmt::Display for Refusal {
     ghost output = { λ x. Some (text_of x) };
 

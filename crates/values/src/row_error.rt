@@ -14,6 +14,7 @@ pub enum RowError {
     Memory,
 }
 
+// By hand, since what a derive writes does not say what it gives.
 impl<T: Drop> From<AllocFailed<T>> for RowError {
     ghost from_gives = { λ _ r. r ≡ Memory };
 
