@@ -1,7 +1,6 @@
 -- The steps of a merge: what an operator's answers give where tallies of lists are joined and closed.
 use Rattle.std.proofs.Common.{◌≡◌, ℕ, ◌+◌, ◌<◌, ◌≤◌, cond, List, [], ◌∷◌, ◌++◌, length, get_or, take, Ok, Err, sym, ap, ◌∙◌, subst, ap₂, arith, length-append, length-take, le-leb}
 use Rattle.std.proofs.lemmas.List.Sums.{fold_more}
-use Rattle.std.proofs.lemmas.List.{nil_from_length}
 use Rattle.merging.specs.Operators.{Definition, Sized, sized_tally, Laws, most, tallied, meaning}
 use Rattle.merging.specs.Merged.{merged, too_many}
 use Rattle.merging.proofs.Grouping.{sized_tallied, tallied_one, tallied_first, tallied_append}
@@ -43,10 +42,6 @@ single (y ∷ []) x h e = ap (λ z. z ∷ []) (sym e)
 single (y ∷ (z ∷ ps)) x h e = absurd (omega arith)
 
 module _ {P T C : Type 0} {d : Definition P T C} (laws : Laws d) where
-  -- The tally of no parts.
-  pub tally_none : {t : T} (ps : List P) → t ≡ d.start → length ps ≡ 0 → t ≡ tallied d ps
-  tally_none ps p h = p ∙ ap (tallied d) (sym (nil_from_length ps h))
-
   -- The tally of one part.
   pub tally_single : {t : T} (ps : List P) (x : P) → t ≡ d.tally x → x ≡ get_or ps 0 x → length ps ≡ 1 → t ≡ tallied d ps
   tally_single ps x p e h = p ∙ sym (tallied_one laws x) ∙ ap (tallied d) (sym (single ps x h e))

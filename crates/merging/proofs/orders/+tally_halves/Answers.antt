@@ -1,11 +1,6 @@
 use Rattle.std.proofs.Common.{◌≡◌, length, rules}
-use Rattle.merging.proofs.Steps.{joined_lists, tally_none, tally_single}
+use Rattle.merging.proofs.Steps.{joined_lists, tally_single}
 use Rattle.merging.proofs.orders.+tally_halves.Goals as goal
-
-pub returns-in-empty : goal.returns-in-empty
-returns-in-empty g t c =
-    let empty : length c.args.parts.now ≡ 0 = search rules in
-    tally_none g.met.O.Operator.lawful c.args.parts.now c.start.ensures empty
 
 pub returns-in-len1 : goal.returns-in-len1
 returns-in-len1 g t c =

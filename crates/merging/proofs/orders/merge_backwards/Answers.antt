@@ -1,11 +1,8 @@
 use Rattle.std.proofs.Common.{[], ◌∷◌, ◌++◌, sym, ap, ◌∙◌}
-use Rattle.std.proofs.lemmas.List.{append-nil, append_assoc, nil_from_length}
+use Rattle.std.proofs.lemmas.List.{append_assoc, nil_from_length}
 use Rattle.merging.specs.Operators.{tallied}
 use Rattle.merging.proofs.Steps.{closed, joined_before}
 use Rattle.merging.proofs.orders.merge_backwards.Goals as goal
-
-pub loop-part-init : goal.loop-part-init
-loop-part-init g c = record { later = []; split = cc (append-nil c.args.parts.now); joined = c.start-sum.ensures }
 
 pub loop-part-preserved : goal.loop-part-preserved
 loop-part-preserved g c =
