@@ -1,10 +1,15 @@
+ghost use Rattle.std.specs.Prelude.{◌≡◌, [], codes, IsOkAnd};
+ghost use Rattle.values.specs.Tables.{rows_of};
+
 use crate::problem::Problem;
 use std::alloc::Global;
 use values::{Members, Row, RowError, Types};
 
 // Rows as array:T, record:T,T,.. and union:T,T,.., parted by `/`; `-` stands for no rows. This is no FromStr, since a
 // table takes the allocator, and rows are types of another crate.
-pub fn parse_types(heap: Global, text: &str) -> Result<Types, Problem> {
+pub fn parse_types(heap: Global, text: &str) -> Result<Types, Problem>
+    ensures none { text.now ≡ codes "-" → IsOkAnd result (λ types. rows_of types ≡ []) }
+{
     let mut types = Types::new(heap);
     if text == "-" {
         return Ok(types);

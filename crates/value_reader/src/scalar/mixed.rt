@@ -3,6 +3,8 @@ ghost use Rattle.values.specs.Values.{integer_value, boolean_value};
 use crate::scalar::Scalar;
 use numbers::{BasicFault, Boolean, Fault, Integer, Number};
 
+// Integers and booleans keep an impl each: one for both would want conversions to and from a Result, and a law that no
+// proper value is an error value.
 impl Scalar for Integer {
     ghost value = { integer_value };
 
