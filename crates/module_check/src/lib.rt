@@ -1,11 +1,12 @@
 // Reads bytes as a module and fills a holder with it, or says why not.
 #![tactic(auto)]
 
+mod enclosing;
 mod filling;
 mod lists;
 mod reader;
+mod scene;
 mod scope;
-mod stop;
 mod tables;
 
 pub use filling::check;

@@ -1,3 +1,7 @@
+ghost use Rattle.std.specs.Prelude.{◌≡◌};
+ghost use Rattle.std.specs.Result.{result_ok};
+ghost use Rattle.verdict.specs.Outcomes.{lookup};
+
 use language::{Leaf, Merge, One, Two};
 use values::Members;
 
@@ -22,6 +26,42 @@ pub enum Sort {
     Union,
     Array,
     Element,
+}
+
+// A byte that is no kind.
+#[derive(Clone, Copy, PartialEq, Eq, Debug)]
+pub struct UnknownKind;
+
+impl TryFrom<u8> for Sort {
+    ghost use Rattle.verdict.specs.Bodies.{end_sorts};
+
+    type Error = UnknownKind;
+
+    ghost try_from_gives = { λ byte r. result_ok r ≡ lookup end_sorts byte };
+
+    fn try_from(byte: u8) -> Result<Sort, UnknownKind> {
+        match byte {
+            0x30 => Ok(Sort::List),
+            0x31 => Ok(Sort::Integer),
+            0x32 => Ok(Sort::Boolean),
+            0x33 => Ok(Sort::Error),
+            0x34 => Ok(Sort::Name),
+            0x35 => Ok(Sort::Operation),
+            0x36 => Ok(Sort::If),
+            0x37 => Ok(Sort::Let),
+            0x38 => Ok(Sort::Tagcase),
+            0x39 => Ok(Sort::For),
+            0x3A => Ok(Sort::Iter),
+            0x3B => Ok(Sort::Forall),
+            0x3C => Ok(Sort::Call),
+            0x3D => Ok(Sort::Record),
+            0x3E => Ok(Sort::Field),
+            0x3F => Ok(Sort::Union),
+            0x40 => Ok(Sort::Array),
+            0x42 => Ok(Sort::Element),
+            _ => Err(UnknownKind),
+        }
+    }
 }
 
 // What such a record says before its parts begin.
@@ -50,4 +90,21 @@ pub enum Shape {
     Array,
     Record,
     Union,
+}
+
+impl TryFrom<u8> for Shape {
+    ghost use Rattle.verdict.specs.Modules.{shapes};
+
+    type Error = UnknownKind;
+
+    ghost try_from_gives = { λ byte r. result_ok r ≡ lookup shapes byte };
+
+    fn try_from(byte: u8) -> Result<Shape, UnknownKind> {
+        match byte {
+            0x12 => Ok(Shape::Array),
+            0x13 => Ok(Shape::Record),
+            0x14 => Ok(Shape::Union),
+            _ => Err(UnknownKind),
+        }
+    }
 }

@@ -13,7 +13,6 @@ use crate::lists::{alike, all_are, single};
 use crate::reader::Reader;
 use crate::reader::heads::{element_of, fields_of, has_fault, tags_of};
 use crate::scope::Scope;
-use crate::stop::Stop;
 use crate::tables::Tables;
 use language::{Binary, Block, End, Kind, Merge, One, Two, Unary};
 use values::{Members, Refusal, Types};
@@ -41,20 +40,14 @@ pub(crate) fn is_one(number: u8, types: Members) -> bool
 pub(crate) fn is_single(types: Members) -> bool
     ensures { result ≡ present (the_one (used types)) }
 {
-    match only(types) {
-        Some(_) => true,
-        None => false,
-    }
+    only(types).is_some()
 }
 
 // The first type.
 pub(crate) fn lead(types: Members) -> u8
     ensures { result ≡ slice_index (used types) 0 }
 {
-    match types.get(0) {
-        Some(number) => number,
-        None => 0,
-    }
+    types.get(0).unwrap_or(0)
 }
 
 // Whether an operation takes an operand of a type.
@@ -62,15 +55,11 @@ fn takes_operand(types: &Types, operation: Unary, number: u8) -> bool
     ensures { result ≡ takes (rows_of types.now) operation number }
 {
     match operation {
-        Unary::Negate => number == 1,
-        Unary::Abs => number == 1,
+        Unary::Negate | Unary::Abs => number == 1,
         Unary::Not => number == 0,
         Unary::IsFault(fault) => has_fault(number, fault),
         Unary::IsError => true,
-        _ => match element_of(types, number) {
-            Some(_) => true,
-            None => false,
-        },
+        Unary::Lowest | Unary::Highest | Unary::Size => element_of(types, number).is_some(),
     }
 }
 
@@ -158,16 +147,14 @@ impl Reader {
         operation: Unary,
         part: Members,
         start: usize,
-    ) -> Result<Members, Stop>
+    ) -> Result<Members, Refusal>
         ensures { TypesRead (judge_one (context_of tables.now) (unary operation) (used part) start self.now.at) self.now.at result }
     {
-        let Some(number) = only(part) else {
-            return Err(Stop::Declined(Refusal::Clash(start)));
-        };
+        let number = only(part).ok_or(Refusal::Clash(start))?;
         if takes_operand(&tables.types, operation, number) {
             Ok(single(gives_type(operation)))
         } else {
-            Err(Stop::Declined(Refusal::Clash(start)))
+            Err(Refusal::Clash(start))
         }
     }
 
@@ -177,18 +164,18 @@ impl Reader {
         function: u8,
         part: Members,
         start: usize,
-    ) -> Result<Members, Stop>
+    ) -> Result<Members, Refusal>
         ensures { TypesRead (judge_one (context_of tables.now) (call function) (used part) start self.now.at) self.now.at result }
     {
         let at = function as usize;
         if at >= tables.functions.len() {
-            return Err(Stop::Declined(Refusal::Clash(start)));
+            return Err(Refusal::Clash(start));
         }
         let callee = tables.functions[at];
         if alike(callee.parameters, part) {
             Ok(callee.results)
         } else {
-            Err(Stop::Declined(Refusal::Clash(start)))
+            Err(Refusal::Clash(start))
         }
     }
 
@@ -198,16 +185,14 @@ impl Reader {
         number: u8,
         part: Members,
         start: usize,
-    ) -> Result<Members, Stop>
+    ) -> Result<Members, Refusal>
         ensures { TypesRead (judge_one (context_of tables.now) (record_of number) (used part) start self.now.at) self.now.at result }
     {
-        let Some(fields) = fields_of(&tables.types, number) else {
-            return Err(Stop::Declined(Refusal::Clash(start)));
-        };
+        let fields = fields_of(&tables.types, number).ok_or(Refusal::Clash(start))?;
         if alike(fields, part) {
             Ok(single(number))
         } else {
-            Err(Stop::Declined(Refusal::Clash(start)))
+            Err(Refusal::Clash(start))
         }
     }
 
@@ -217,19 +202,13 @@ impl Reader {
         field: u8,
         part: Members,
         start: usize,
-    ) -> Result<Members, Stop>
+    ) -> Result<Members, Refusal>
         ensures { TypesRead (judge_one (context_of tables.now) (field_of field) (used part) start self.now.at) self.now.at result }
     {
-        let Some(number) = only(part) else {
-            return Err(Stop::Declined(Refusal::Clash(start)));
-        };
-        let Some(fields) = fields_of(&tables.types, number) else {
-            return Err(Stop::Declined(Refusal::Clash(start)));
-        };
-        match fields.get(field) {
-            Some(member) => Ok(single(member)),
-            None => Err(Stop::Declined(Refusal::Undeclared(start))),
-        }
+        let number = only(part).ok_or(Refusal::Clash(start))?;
+        let fields = fields_of(&tables.types, number).ok_or(Refusal::Clash(start))?;
+        let member = fields.get(field).ok_or(Refusal::Undeclared(start))?;
+        Ok(single(member))
     }
 
     fn union(
@@ -239,19 +218,15 @@ impl Reader {
         tag: u8,
         part: Members,
         start: usize,
-    ) -> Result<Members, Stop>
+    ) -> Result<Members, Refusal>
         ensures { TypesRead (judge_one (context_of tables.now) (union_of number tag) (used part) start self.now.at) self.now.at result }
     {
-        let Some(constituents) = tags_of(&tables.types, number) else {
-            return Err(Stop::Declined(Refusal::Clash(start)));
-        };
-        let Some(constituent) = constituents.get(tag) else {
-            return Err(Stop::Declined(Refusal::Clash(start)));
-        };
+        let constituents = tags_of(&tables.types, number).ok_or(Refusal::Clash(start))?;
+        let constituent = constituents.get(tag).ok_or(Refusal::Clash(start))?;
         if is_one(constituent, part) {
             Ok(single(number))
         } else {
-            Err(Stop::Declined(Refusal::Clash(start)))
+            Err(Refusal::Clash(start))
         }
     }
 
@@ -262,7 +237,7 @@ impl Reader {
         one: One,
         part: Members,
         start: usize,
-    ) -> Result<Members, Stop>
+    ) -> Result<Members, Refusal>
         ensures { TypesRead (judge_one (context_of tables.now) one (used part) start self.now.at) self.now.at result }
     {
         match one {
@@ -281,14 +256,14 @@ impl Reader {
         first: Members,
         second: Members,
         start: usize,
-    ) -> Result<Members, Stop>
+    ) -> Result<Members, Refusal>
         ensures { TypesRead (judge_two (context_of tables.now) (binary operation) (used first) (used second) start self.now.at) self.now.at result }
     {
         let number = operand_type(operation);
         if is_one(number, first) && is_one(number, second) {
             Ok(single(result_type(operation)))
         } else {
-            Err(Stop::Declined(Refusal::Clash(start)))
+            Err(Refusal::Clash(start))
         }
     }
 
@@ -299,16 +274,14 @@ impl Reader {
         low: Members,
         elements: Members,
         start: usize,
-    ) -> Result<Members, Stop>
+    ) -> Result<Members, Refusal>
         ensures { TypesRead (judge_two (context_of tables.now) (array_of number) (used low) (used elements) start self.now.at) self.now.at result }
     {
-        let Some(element) = element_of(&tables.types, number) else {
-            return Err(Stop::Declined(Refusal::Clash(start)));
-        };
+        let element = element_of(&tables.types, number).ok_or(Refusal::Clash(start))?;
         if is_one(1, low) && all_are(element, elements) {
             Ok(single(number))
         } else {
-            Err(Stop::Declined(Refusal::Clash(start)))
+            Err(Refusal::Clash(start))
         }
     }
 
@@ -318,19 +291,15 @@ impl Reader {
         array: Members,
         index: Members,
         start: usize,
-    ) -> Result<Members, Stop>
+    ) -> Result<Members, Refusal>
         ensures { TypesRead (judge_two (context_of tables.now) element_at (used array) (used index) start self.now.at) self.now.at result }
     {
-        let Some(number) = only(array) else {
-            return Err(Stop::Declined(Refusal::Clash(start)));
-        };
-        let Some(element) = element_of(&tables.types, number) else {
-            return Err(Stop::Declined(Refusal::Clash(start)));
-        };
+        let number = only(array).ok_or(Refusal::Clash(start))?;
+        let element = element_of(&tables.types, number).ok_or(Refusal::Clash(start))?;
         if is_one(1, index) {
             Ok(single(element))
         } else {
-            Err(Stop::Declined(Refusal::Clash(start)))
+            Err(Refusal::Clash(start))
         }
     }
 
@@ -342,7 +311,7 @@ impl Reader {
         first: Members,
         second: Members,
         start: usize,
-    ) -> Result<Members, Stop>
+    ) -> Result<Members, Refusal>
         ensures { TypesRead (judge_two (context_of tables.now) two (used first) (used second) start self.now.at) self.now.at result }
     {
         match two {
@@ -359,29 +328,22 @@ impl Reader {
         arms: u8,
         test: Members,
         start: usize,
-    ) -> Result<Members, Stop>
+    ) -> Result<Members, Refusal>
         ensures { TypesRead (arms_of (context_of tables.now) arms (used test) start self.now.at) self.now.at result }
     {
-        let Some(number) = only(test) else {
-            return Err(Stop::Declined(Refusal::Clash(start)));
-        };
-        let Some(constituents) = tags_of(&tables.types, number) else {
-            return Err(Stop::Declined(Refusal::Clash(start)));
-        };
+        let number = only(test).ok_or(Refusal::Clash(start))?;
+        let constituents = tags_of(&tables.types, number).ok_or(Refusal::Clash(start))?;
         if arms == constituents.count() {
             Ok(constituents)
         } else {
-            Err(Stop::Declined(Refusal::Clash(start)))
+            Err(Refusal::Clash(start))
         }
     }
 
     // The scope with the names that the record at start binds.
-    pub(crate) fn extend(&self, scope: &Scope, more: Members, start: usize) -> Result<Scope, Stop>
+    pub(crate) fn extend(&self, scope: &Scope, more: Members, start: usize) -> Result<Scope, Refusal>
         ensures { Extended (bound (names scope.now) (used more) start self.now.at) self.now.at result }
     {
-        match scope.with_all(more) {
-            Some(larger) => Ok(larger),
-            None => Err(Stop::Declined(Refusal::Deep(start))),
-        }
+        scope.with_all(more).ok_or(Refusal::Deep(start))
     }
 }

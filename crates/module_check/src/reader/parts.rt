@@ -1,16 +1,15 @@
 ghost use Rattle.std.specs.Prelude.{◌≡◌, ◌+◌, ◌-◌, ◌<◌, ◌≤◌, [], ◌∷◌, ◌++◌, length, if◌then◌else◌, vec_len, slice_index, slice_set};
 ghost use Rattle.values.specs.Rows.{used};
-ghost use Rattle.verdict.specs.declared.kinds.Head.TheVariants.{One as one_head, Two as two_head, List as list_head, If as if_head, Let as let_head, Tagcase as tagcase_head, For as for_head, Forall as forall_head, Iter as iter_head};
-ghost use Rattle.verdict.specs.Expressions.{expr, end, one_at, two_at, list_at, if_at, let_at, tagcase_at, arms_at, for_at, forall_at, parts_at, iter_at, if_end_at, let_end_at, tagcase_end_at, ends_at, end_parts_at, done_at, goes_on};
-ghost use Rattle.module_check.specs.Views.{names, context_of, counts_of};
-ghost use Rattle.module_check.specs.Reading.{Fit, Opened, ExprRead, PartsRead, ArmsRead, EndRead, EndPartsRead, EndsRead};
+ghost use Rattle.verdict.specs.declared.kinds.Head.TheVariants.{One as one_head, Two as two_head, List as list_head, If as if_head, Let as let_head, Tagcase as tagcase_head, For as for_head, Forall as forall_head};
+ghost use Rattle.verdict.specs.Expressions.{one_at, two_at, list_at, if_at, let_at, tagcase_at, arms_at, for_at, forall_at, parts_at, if_end_at, let_end_at, tagcase_end_at, ends_at, end_parts_at, goes_on};
+ghost use Rattle.module_check.specs.Views.{context_in, counts_in, names_in, expr_in, end_in};
+ghost use Rattle.module_check.specs.Reading.{Fit, Opened, GoesOn, ExprRead, PartsRead, ArmsRead, AskedRead, EndRead, EndPartsRead, EndsRead};
 
+use crate::enclosing::Enclosing;
 use crate::lists::{alike, single};
 use crate::reader::Reader;
 use crate::reader::judging::{end_noted, is_one, is_single, lead, merge_type, noted};
-use crate::scope::Scope;
-use crate::stop::Stop;
-use crate::tables::Tables;
+use crate::scene::Scene;
 use language::{Block, Kind, Merge, Node, One, Two};
 use values::{Members, Refusal};
 use verdict::{Head, Sort};
@@ -19,10 +18,7 @@ use verdict::{Head, Sort};
 fn is_end(sort: Sort) -> bool
     ensures { result ≡ goes_on sort }
 {
-    match sort {
-        Sort::If | Sort::Let | Sort::Tagcase | Sort::Iter => true,
-        _ => false,
-    }
+    matches!(sort, Sort::If | Sort::Let | Sort::Tagcase | Sort::Iter)
 }
 
 // The one or the other.
@@ -34,7 +30,7 @@ fn chosen(one: bool, first: Members, second: Members) -> Members
 
 impl Reader {
     // Notes a record whose kind and span are not known yet.
-    fn open(&mut self) -> Result<usize, Stop>
+    fn open(&mut self) -> Result<usize, Refusal>
         ensures still { self.new.at ≡ self.old.at }
         ensures opened { Opened self.old.nodes.items self.new.nodes.items result }
     {
@@ -56,122 +52,79 @@ impl Reader {
         self.nodes[here] = Node { kind, span };
     }
 
-    // An expression under these names, with room for so many open records: the types of its values.
+    // An expression: the types of its values.
     #[cycle(expressions)]
-    pub(crate) fn expr(
-        &mut self,
-        bytes: &[u8],
-        tables: &Tables,
-        scope: &Scope,
-        room: usize,
-    ) -> Result<Members, Stop>
-        ensures later { self.old.at ≤ self.new.at }
-        ensures reads { ExprRead (counts_of tables.now) (expr (context_of tables.now) room bytes.now (names scope.now) self.old.at) self.old.nodes.items self.new.nodes.items self.new.at result }
+    pub(crate) fn expr(&mut self, scene: &Scene) -> Result<Members, Refusal>
+        ensures { GoesOn (ExprRead (counts_in scene.now) (expr_in scene.now (names_in scene.now) self.old.at)) self.old self.new result }
     {
         let start = self.at;
-        let sort = self.kind(bytes)?;
-        if room == 0 {
-            return Err(Stop::Declined(Refusal::Deep(start)));
+        let sort = self.kind(scene.bytes)?;
+        if scene.room == 0 {
+            return Err(Refusal::Deep(start));
         }
         let here = self.open()?;
-        let head = self.head(bytes, tables, scope, sort, start)?;
-        let types = self.parts(bytes, tables, head, scope, start, room - 1)?;
+        let head = self.head(scene, sort)?;
+        let inside = Scene {
+            room: scene.room - 1,
+            ..*scene
+        };
+        let types = self.parts(&inside, head, start)?;
         self.close(here, noted(head, types));
         Ok(types)
     }
 
     // The parts of the record at start.
     #[cycle(expressions)]
-    fn parts(
-        &mut self,
-        bytes: &[u8],
-        tables: &Tables,
-        head: Head,
-        scope: &Scope,
-        start: usize,
-        room: usize,
-    ) -> Result<Members, Stop>
+    fn parts(&mut self, scene: &Scene, head: Head, start: usize) -> Result<Members, Refusal>
         requires { Fit head }
-        ensures later { self.old.at ≤ self.new.at }
-        ensures reads { PartsRead (counts_of tables.now) head (parts_at (context_of tables.now) (expr (context_of tables.now) room bytes.now) (end (context_of tables.now) room bytes.now) head (names scope.now) start self.old.at) self.old.nodes.items self.new.nodes.items self.new.at result }
+        ensures { GoesOn (PartsRead (counts_in scene.now) head (parts_at (context_in scene.now) (expr_in scene.now) (end_in scene.now) head (names_in scene.now) start self.old.at)) self.old self.new result }
     {
         match head {
             Head::Leaf(_, number) => Ok(single(number)),
-            Head::One(one) => self.one(bytes, tables, one, scope, start, room),
-            Head::Two(two) => self.two(bytes, tables, two, scope, start, room),
-            Head::List(members) => self.list(bytes, tables, members, scope, start, room),
-            Head::If => self.branch(bytes, tables, scope, start, room),
-            Head::Let => self.binding(bytes, tables, scope, start, room),
-            Head::Tagcase(arms) => self.tagcase(bytes, tables, arms, scope, start, room),
-            Head::For(results) => self.cycle(bytes, tables, results, scope, start, room),
-            Head::Forall(merge, part) => self.forall(
-                bytes, tables, merge, part, scope, start, room,
-            ),
-            Head::Iter => Err(Stop::Declined(Refusal::Strange(start))),
+            Head::One(one) => self.one(scene, one, start),
+            Head::Two(two) => self.two(scene, two, start),
+            Head::List(members) => self.list(scene, members, start),
+            Head::If => self.branch(scene, start),
+            Head::Let => self.binding(scene, start),
+            Head::Tagcase(arms) => self.tagcase(scene, arms, start),
+            Head::For(results) => self.cycle(scene, results, start),
+            Head::Forall(merge, part) => self.forall(scene, merge, part, start),
+            Head::Iter => Err(Refusal::Strange(start)),
         }
     }
 
     #[cycle(expressions)]
-    fn one(
-        &mut self,
-        bytes: &[u8],
-        tables: &Tables,
-        one: One,
-        scope: &Scope,
-        start: usize,
-        room: usize,
-    ) -> Result<Members, Stop>
-        ensures later { self.old.at ≤ self.new.at }
-        ensures reads { PartsRead (counts_of tables.now) (one_head one) (one_at (context_of tables.now) (expr (context_of tables.now) room bytes.now) one (names scope.now) start self.old.at) self.old.nodes.items self.new.nodes.items self.new.at result }
+    fn one(&mut self, scene: &Scene, one: One, start: usize) -> Result<Members, Refusal>
+        ensures { GoesOn (PartsRead (counts_in scene.now) (one_head one) (one_at (context_in scene.now) (expr_in scene.now) one (names_in scene.now) start self.old.at)) self.old self.new result }
     {
-        let part = self.expr(bytes, tables, scope, room)?;
-        let types = self.judge_one(tables, one, part, start)?;
-        Ok(types)
+        let part = self.expr(scene)?;
+        self.judge_one(scene.tables, one, part, start)
     }
 
     #[cycle(expressions)]
-    fn two(
-        &mut self,
-        bytes: &[u8],
-        tables: &Tables,
-        two: Two,
-        scope: &Scope,
-        start: usize,
-        room: usize,
-    ) -> Result<Members, Stop>
-        ensures later { self.old.at ≤ self.new.at }
-        ensures reads { PartsRead (counts_of tables.now) (two_head two) (two_at (context_of tables.now) (expr (context_of tables.now) room bytes.now) two (names scope.now) start self.old.at) self.old.nodes.items self.new.nodes.items self.new.at result }
+    fn two(&mut self, scene: &Scene, two: Two, start: usize) -> Result<Members, Refusal>
+        ensures { GoesOn (PartsRead (counts_in scene.now) (two_head two) (two_at (context_in scene.now) (expr_in scene.now) two (names_in scene.now) start self.old.at)) self.old self.new result }
     {
-        let first = self.expr(bytes, tables, scope, room)?;
-        let second = self.expr(bytes, tables, scope, room)?;
-        let types = self.judge_two(tables, two, first, second, start)?;
-        Ok(types)
+        let first = self.expr(scene)?;
+        let second = self.expr(scene)?;
+        self.judge_two(scene.tables, two, first, second, start)
     }
 
     // The members have one value each.
     #[cycle(expressions)]
-    fn list(
-        &mut self,
-        bytes: &[u8],
-        tables: &Tables,
-        members: u8,
-        scope: &Scope,
-        start: usize,
-        room: usize,
-    ) -> Result<Members, Stop>
+    fn list(&mut self, scene: &Scene, members: u8, start: usize) -> Result<Members, Refusal>
         requires { (2 ≤ members) × (members ≤ 8) }
-        ensures later { self.old.at ≤ self.new.at }
-        ensures reads { PartsRead (counts_of tables.now) (list_head members) (list_at (expr (context_of tables.now) room bytes.now) members (names scope.now) start self.old.at) self.old.nodes.items self.new.nodes.items self.new.at result }
+        ensures { GoesOn (PartsRead (counts_in scene.now) (list_head members) (list_at (expr_in scene.now) members (names_in scene.now) start self.old.at)) self.old self.new result }
     {
         let mut numbers = [0; 8];
         let mut singles = true;
         for i in 0..members {
-            let part = self.expr(bytes, tables, scope, room)?;
+            let part = self.expr(scene)?;
             singles = singles & is_single(part);
             numbers[i as usize] = lead(part);
         }
         if !singles {
-            return Err(Stop::Declined(Refusal::Clash(start)));
+            return Err(Refusal::Clash(start));
         }
         match Members::new(numbers, members) {
             Some(types) => Ok(types),
@@ -180,377 +133,180 @@ impl Reader {
     }
 
     #[cycle(expressions)]
-    fn branch(
-        &mut self,
-        bytes: &[u8],
-        tables: &Tables,
-        scope: &Scope,
-        start: usize,
-        room: usize,
-    ) -> Result<Members, Stop>
-        ensures later { self.old.at ≤ self.new.at }
-        ensures reads { PartsRead (counts_of tables.now) if_head (if_at (expr (context_of tables.now) room bytes.now) (names scope.now) start self.old.at) self.old.nodes.items self.new.nodes.items self.new.at result }
+    fn branch(&mut self, scene: &Scene, start: usize) -> Result<Members, Refusal>
+        ensures { GoesOn (PartsRead (counts_in scene.now) if_head (if_at (expr_in scene.now) (names_in scene.now) start self.old.at)) self.old self.new result }
     {
-        let test = self.expr(bytes, tables, scope, room)?;
-        let taken = self.expr(bytes, tables, scope, room)?;
-        let other = self.expr(bytes, tables, scope, room)?;
+        let test = self.expr(scene)?;
+        let taken = self.expr(scene)?;
+        let other = self.expr(scene)?;
         if is_one(0, test) && alike(taken, other) {
             Ok(taken)
         } else {
-            Err(Stop::Declined(Refusal::Clash(start)))
+            Err(Refusal::Clash(start))
         }
     }
 
     #[cycle(expressions)]
-    fn binding(
-        &mut self,
-        bytes: &[u8],
-        tables: &Tables,
-        scope: &Scope,
-        start: usize,
-        room: usize,
-    ) -> Result<Members, Stop>
-        ensures later { self.old.at ≤ self.new.at }
-        ensures reads { PartsRead (counts_of tables.now) let_head (let_at (expr (context_of tables.now) room bytes.now) (names scope.now) start self.old.at) self.old.nodes.items self.new.nodes.items self.new.at result }
+    fn binding(&mut self, scene: &Scene, start: usize) -> Result<Members, Refusal>
+        ensures { GoesOn (PartsRead (counts_in scene.now) let_head (let_at (expr_in scene.now) (names_in scene.now) start self.old.at)) self.old self.new result }
     {
-        let definition = self.expr(bytes, tables, scope, room)?;
-        let inner = self.extend(scope, definition, start)?;
-        let body = self.expr(bytes, tables, &inner, room)?;
-        Ok(body)
+        let definition = self.expr(scene)?;
+        let scope = &self.extend(scene.scope, definition, start)?;
+        self.expr(&Scene { scope, ..*scene })
     }
 
     #[cycle(expressions)]
-    fn tagcase(
-        &mut self,
-        bytes: &[u8],
-        tables: &Tables,
-        arms: u8,
-        scope: &Scope,
-        start: usize,
-        room: usize,
-    ) -> Result<Members, Stop>
-        ensures later { self.old.at ≤ self.new.at }
-        ensures reads { PartsRead (counts_of tables.now) (tagcase_head arms) (tagcase_at (context_of tables.now) (expr (context_of tables.now) room bytes.now) arms (names scope.now) start self.old.at) self.old.nodes.items self.new.nodes.items self.new.at result }
+    fn tagcase(&mut self, scene: &Scene, arms: u8, start: usize) -> Result<Members, Refusal>
+        ensures { GoesOn (PartsRead (counts_in scene.now) (tagcase_head arms) (tagcase_at (context_in scene.now) (expr_in scene.now) arms (names_in scene.now) start self.old.at)) self.old self.new result }
     {
-        let test = self.expr(bytes, tables, scope, room)?;
-        let constituents = self.arms_of(tables, arms, test, start)?;
-        if scope.count >= 96 {
-            return Err(Stop::Declined(Refusal::Deep(start)));
+        let test = self.expr(scene)?;
+        let constituents = self.arms_of(scene.tables, arms, test, start)?;
+        if scene.scope.is_full() {
+            return Err(Refusal::Deep(start));
         }
-        let types = self.arms(bytes, tables, constituents, scope, start, room)?;
-        Ok(types)
+        self.arms(scene, constituents, start)
     }
 
     // An arm for each constituent; all have the types of the first.
     #[cycle(expressions)]
-    fn arms(
-        &mut self,
-        bytes: &[u8],
-        tables: &Tables,
-        constituents: Members,
-        scope: &Scope,
-        start: usize,
-        room: usize,
-    ) -> Result<Members, Stop>
-        requires { length (names scope.now) < 96 }
-        ensures later { self.old.at ≤ self.new.at }
-        ensures reads { ArmsRead (counts_of tables.now) start (length (used constituents)) (arms_at (expr (context_of tables.now) room bytes.now) (used constituents) (names scope.now) self.old.at) self.old.nodes.items self.new.nodes.items self.new.at result }
+    fn arms(&mut self, scene: &Scene, constituents: Members, start: usize) -> Result<Members, Refusal>
+        requires { length (names_in scene.now) < 96 }
+        ensures { GoesOn (ArmsRead (counts_in scene.now) start (length (used constituents)) (arms_at (expr_in scene.now) (used constituents) (names_in scene.now) self.old.at)) self.old self.new result }
     {
-        let mut first = single(0);
+        let mut first = None;
         let mut agree = true;
-        for i in 0..constituents.count() {
-            let types = self.arm(bytes, tables, constituents, i, scope, room)?;
-            first = chosen(i == 0, types, first);
-            agree = agree & alike(first, types);
+        for constituent in constituents.as_slice() {
+            let scope = &scene.scope.with(*constituent);
+            let types = self.expr(&Scene { scope, ..*scene })?;
+            let shared = first.unwrap_or(types);
+            agree = agree & alike(shared, types);
+            first = Some(shared);
         }
-        if agree {
-            Ok(first)
-        } else {
-            Err(Stop::Declined(Refusal::Clash(start)))
+        match first {
+            Some(types) if agree => Ok(types),
+            _ => Err(Refusal::Clash(start)),
         }
     }
 
     #[cycle(expressions)]
-    fn arm(
-        &mut self,
-        bytes: &[u8],
-        tables: &Tables,
-        constituents: Members,
-        i: u8,
-        scope: &Scope,
-        room: usize,
-    ) -> Result<Members, Stop>
-        requires { (length (names scope.now) < 96) × (i < length (used constituents)) }
-        ensures later { self.old.at ≤ self.new.at }
-        ensures reads { ExprRead (counts_of tables.now) (expr (context_of tables.now) room bytes.now ((names scope.now) ++ slice_index (used constituents) i ∷ []) self.old.at) self.old.nodes.items self.new.nodes.items self.new.at result }
+    fn cycle(&mut self, scene: &Scene, results: Members, start: usize) -> Result<Members, Refusal>
+        ensures { GoesOn (PartsRead (counts_in scene.now) (for_head results) (for_at (expr_in scene.now) (end_in scene.now) (used results) (names_in scene.now) start self.old.at)) self.old self.new result }
     {
-        let Some(constituent) = constituents.get(i) else {
-            unreachable()
-        };
-        let Some(inner) = scope.with(constituent) else {
-            unreachable()
-        };
-        let types = self.expr(bytes, tables, &inner, room)?;
-        Ok(types)
-    }
-
-    #[cycle(expressions)]
-    fn cycle(
-        &mut self,
-        bytes: &[u8],
-        tables: &Tables,
-        results: Members,
-        scope: &Scope,
-        start: usize,
-        room: usize,
-    ) -> Result<Members, Stop>
-        ensures later { self.old.at ≤ self.new.at }
-        ensures reads { PartsRead (counts_of tables.now) (for_head results) (for_at (expr (context_of tables.now) room bytes.now) (end (context_of tables.now) room bytes.now) (used results) (names scope.now) start self.old.at) self.old.nodes.items self.new.nodes.items self.new.at result }
-    {
-        let initial = self.expr(bytes, tables, scope, room)?;
-        let inner = self.extend(scope, initial, start)?;
-        self.end(bytes, tables, results, initial, &inner, room)?;
+        let names = self.expr(scene)?;
+        let scope = &self.extend(scene.scope, names, start)?;
+        self.end(&Scene { scope, ..*scene }, Enclosing { results, names })?;
         Ok(results)
     }
 
     #[cycle(expressions)]
-    fn forall(
-        &mut self,
-        bytes: &[u8],
-        tables: &Tables,
-        merge: Merge,
-        part: u8,
-        scope: &Scope,
-        start: usize,
-        room: usize,
-    ) -> Result<Members, Stop>
-        ensures later { self.old.at ≤ self.new.at }
-        ensures reads { PartsRead (counts_of tables.now) (forall_head merge part) (forall_at (expr (context_of tables.now) room bytes.now) merge part (names scope.now) start self.old.at) self.old.nodes.items self.new.nodes.items self.new.at result }
+    fn forall(&mut self, scene: &Scene, merge: Merge, part: u8, start: usize) -> Result<Members, Refusal>
+        ensures { GoesOn (PartsRead (counts_in scene.now) (forall_head merge part) (forall_at (expr_in scene.now) merge part (names_in scene.now) start self.old.at)) self.old self.new result }
     {
-        let low = self.expr(bytes, tables, scope, room)?;
-        let high = self.expr(bytes, tables, scope, room)?;
-        let inner = self.extend(scope, single(1), start)?;
-        let types = self.expr(bytes, tables, &inner, room)?;
+        let low = self.expr(scene)?;
+        let high = self.expr(scene)?;
+        let scope = &self.extend(scene.scope, single(1), start)?;
+        let types = self.expr(&Scene { scope, ..*scene })?;
         if is_one(1, low) && is_one(1, high) && is_one(part, types) {
             Ok(single(merge_type(merge)))
         } else {
-            Err(Stop::Declined(Refusal::Clash(start)))
+            Err(Refusal::Clash(start))
         }
     }
 
-    // The end of a loop with these results and these types of its own names.
+    // An expression of these types; the record at start is at fault where it has others.
     #[cycle(expressions)]
-    fn end(
-        &mut self,
-        bytes: &[u8],
-        tables: &Tables,
-        results: Members,
-        again: Members,
-        scope: &Scope,
-        room: usize,
-    ) -> Result<(), Stop>
-        ensures later { self.old.at ≤ self.new.at }
-        ensures reads { EndRead (counts_of tables.now) (length (used results)) (end (context_of tables.now) room bytes.now (used results) (used again) (names scope.now) self.old.at) self.old.nodes.items self.new.nodes.items self.new.at result }
+    pub(crate) fn asked(&mut self, scene: &Scene, types: Members, start: usize) -> Result<(), Refusal>
+        ensures { GoesOn (AskedRead (counts_in scene.now) (used types) start (expr_in scene.now (names_in scene.now) self.old.at)) self.old self.new result }
+    {
+        if alike(types, self.expr(scene)?) {
+            Ok(())
+        } else {
+            Err(Refusal::Clash(start))
+        }
+    }
+
+    // The end of a loop. An expression there has the loop's results, and is judged at its own record.
+    #[cycle(expressions)]
+    fn end(&mut self, scene: &Scene, enclosing: Enclosing) -> Result<(), Refusal>
+        ensures { GoesOn (EndRead (counts_in scene.now) (length (used enclosing.results)) (end_in scene.now (used enclosing.results) (used enclosing.names) (names_in scene.now) self.old.at)) self.old self.new result }
     {
         let start = self.at;
-        let sort = self.end_kind(bytes)?;
+        let sort = self.end_kind(scene.bytes)?;
         if !is_end(sort) {
-            return self.done(bytes, tables, results, start, scope, room);
+            return self.asked(scene, enclosing.results, start);
         }
-        if room == 0 {
-            return Err(Stop::Declined(Refusal::Deep(start)));
+        if scene.room == 0 {
+            return Err(Refusal::Deep(start));
         }
         let here = self.open()?;
-        let head = self.head(bytes, tables, scope, sort, start)?;
-        self.end_parts(bytes, tables, head, results, again, scope, start, room - 1)?;
-        self.close(here, end_noted(head, results));
+        let head = self.head(scene, sort)?;
+        let inside = Scene {
+            room: scene.room - 1,
+            ..*scene
+        };
+        self.end_parts(&inside, head, enclosing, start)?;
+        self.close(here, end_noted(head, enclosing.results));
         Ok(())
     }
 
-    // An expression there is judged at its own record.
+    // The parts of the record at start; an iter carries the types of the loop's names.
     #[cycle(expressions)]
-    fn done(
-        &mut self,
-        bytes: &[u8],
-        tables: &Tables,
-        results: Members,
-        start: usize,
-        scope: &Scope,
-        room: usize,
-    ) -> Result<(), Stop>
-        requires { self.old.at ≡ start }
-        ensures later { self.old.at ≤ self.new.at }
-        ensures reads { EndRead (counts_of tables.now) (length (used results)) (done_at (used results) start (expr (context_of tables.now) room bytes.now (names scope.now) start)) self.old.nodes.items self.new.nodes.items self.new.at result }
-    {
-        let types = self.expr(bytes, tables, scope, room)?;
-        if alike(results, types) {
-            Ok(())
-        } else {
-            Err(Stop::Declined(Refusal::Clash(start)))
-        }
-    }
-
-    #[cycle(expressions)]
-    fn end_parts(
-        &mut self,
-        bytes: &[u8],
-        tables: &Tables,
-        head: Head,
-        results: Members,
-        again: Members,
-        scope: &Scope,
-        start: usize,
-        room: usize,
-    ) -> Result<(), Stop>
-        ensures later { self.old.at ≤ self.new.at }
-        ensures reads { EndPartsRead (counts_of tables.now) (used results) head (end_parts_at (context_of tables.now) (expr (context_of tables.now) room bytes.now) (end (context_of tables.now) room bytes.now) head (used results) (used again) (names scope.now) start self.old.at) self.old.nodes.items self.new.nodes.items self.new.at result }
+    fn end_parts(&mut self, scene: &Scene, head: Head, enclosing: Enclosing, start: usize) -> Result<(), Refusal>
+        ensures { GoesOn (EndPartsRead (counts_in scene.now) (used enclosing.results) head (end_parts_at (context_in scene.now) (expr_in scene.now) (end_in scene.now) head (used enclosing.results) (used enclosing.names) (names_in scene.now) start self.old.at)) self.old self.new result }
     {
         match head {
-            Head::If => self.end_if(bytes, tables, results, again, scope, start, room),
-            Head::Let => self.end_let(bytes, tables, results, again, scope, start, room),
-            Head::Tagcase(arms) => self.end_tag(
-                bytes, tables, arms, results, again, scope, start, room,
-            ),
-            Head::Iter => self.again(bytes, tables, results, again, scope, start, room),
-            _ => Err(Stop::Declined(Refusal::Strange(start))),
-        }
-    }
-
-    // An iter carries the types of the loop's names.
-    #[cycle(expressions)]
-    fn again(
-        &mut self,
-        bytes: &[u8],
-        tables: &Tables,
-        results: Members,
-        again: Members,
-        scope: &Scope,
-        start: usize,
-        room: usize,
-    ) -> Result<(), Stop>
-        ensures later { self.old.at ≤ self.new.at }
-        ensures reads { EndPartsRead (counts_of tables.now) (used results) iter_head (iter_at (expr (context_of tables.now) room bytes.now) (used again) (names scope.now) start self.old.at) self.old.nodes.items self.new.nodes.items self.new.at result }
-    {
-        let types = self.expr(bytes, tables, scope, room)?;
-        if alike(again, types) {
-            Ok(())
-        } else {
-            Err(Stop::Declined(Refusal::Clash(start)))
+            Head::If => self.end_if(scene, enclosing, start),
+            Head::Let => self.end_let(scene, enclosing, start),
+            Head::Tagcase(arms) => self.end_tag(scene, arms, enclosing, start),
+            Head::Iter => self.asked(scene, enclosing.names, start),
+            _ => Err(Refusal::Strange(start)),
         }
     }
 
     #[cycle(expressions)]
-    fn end_if(
-        &mut self,
-        bytes: &[u8],
-        tables: &Tables,
-        results: Members,
-        again: Members,
-        scope: &Scope,
-        start: usize,
-        room: usize,
-    ) -> Result<(), Stop>
-        ensures later { self.old.at ≤ self.new.at }
-        ensures reads { EndPartsRead (counts_of tables.now) (used results) if_head (if_end_at (expr (context_of tables.now) room bytes.now) (end (context_of tables.now) room bytes.now) (used results) (used again) (names scope.now) start self.old.at) self.old.nodes.items self.new.nodes.items self.new.at result }
+    fn end_if(&mut self, scene: &Scene, enclosing: Enclosing, start: usize) -> Result<(), Refusal>
+        ensures { GoesOn (EndPartsRead (counts_in scene.now) (used enclosing.results) if_head (if_end_at (expr_in scene.now) (end_in scene.now) (used enclosing.results) (used enclosing.names) (names_in scene.now) start self.old.at)) self.old self.new result }
     {
-        let test = self.expr(bytes, tables, scope, room)?;
-        self.end(bytes, tables, results, again, scope, room)?;
-        self.end(bytes, tables, results, again, scope, room)?;
+        let test = self.expr(scene)?;
+        self.end(scene, enclosing)?;
+        self.end(scene, enclosing)?;
         if is_one(0, test) {
             Ok(())
         } else {
-            Err(Stop::Declined(Refusal::Clash(start)))
+            Err(Refusal::Clash(start))
         }
     }
 
     #[cycle(expressions)]
-    fn end_let(
-        &mut self,
-        bytes: &[u8],
-        tables: &Tables,
-        results: Members,
-        again: Members,
-        scope: &Scope,
-        start: usize,
-        room: usize,
-    ) -> Result<(), Stop>
-        ensures later { self.old.at ≤ self.new.at }
-        ensures reads { EndPartsRead (counts_of tables.now) (used results) let_head (let_end_at (expr (context_of tables.now) room bytes.now) (end (context_of tables.now) room bytes.now) (used results) (used again) (names scope.now) start self.old.at) self.old.nodes.items self.new.nodes.items self.new.at result }
+    fn end_let(&mut self, scene: &Scene, enclosing: Enclosing, start: usize) -> Result<(), Refusal>
+        ensures { GoesOn (EndPartsRead (counts_in scene.now) (used enclosing.results) let_head (let_end_at (expr_in scene.now) (end_in scene.now) (used enclosing.results) (used enclosing.names) (names_in scene.now) start self.old.at)) self.old self.new result }
     {
-        let definition = self.expr(bytes, tables, scope, room)?;
-        let inner = self.extend(scope, definition, start)?;
-        self.end(bytes, tables, results, again, &inner, room)?;
-        Ok(())
+        let definition = self.expr(scene)?;
+        let scope = &self.extend(scene.scope, definition, start)?;
+        self.end(&Scene { scope, ..*scene }, enclosing)
     }
 
     #[cycle(expressions)]
-    fn end_tag(
-        &mut self,
-        bytes: &[u8],
-        tables: &Tables,
-        arms: u8,
-        results: Members,
-        again: Members,
-        scope: &Scope,
-        start: usize,
-        room: usize,
-    ) -> Result<(), Stop>
-        ensures later { self.old.at ≤ self.new.at }
-        ensures reads { EndPartsRead (counts_of tables.now) (used results) (tagcase_head arms) (tagcase_end_at (context_of tables.now) (expr (context_of tables.now) room bytes.now) (end (context_of tables.now) room bytes.now) arms (used results) (used again) (names scope.now) start self.old.at) self.old.nodes.items self.new.nodes.items self.new.at result }
+    fn end_tag(&mut self, scene: &Scene, arms: u8, enclosing: Enclosing, start: usize) -> Result<(), Refusal>
+        ensures { GoesOn (EndPartsRead (counts_in scene.now) (used enclosing.results) (tagcase_head arms) (tagcase_end_at (context_in scene.now) (expr_in scene.now) (end_in scene.now) arms (used enclosing.results) (used enclosing.names) (names_in scene.now) start self.old.at)) self.old self.new result }
     {
-        let test = self.expr(bytes, tables, scope, room)?;
-        let constituents = self.arms_of(tables, arms, test, start)?;
-        if scope.count >= 96 {
-            return Err(Stop::Declined(Refusal::Deep(start)));
+        let test = self.expr(scene)?;
+        let constituents = self.arms_of(scene.tables, arms, test, start)?;
+        if scene.scope.is_full() {
+            return Err(Refusal::Deep(start));
         }
-        self.ends(bytes, tables, constituents, results, again, scope, room)?;
-        Ok(())
+        self.ends(scene, constituents, enclosing)
     }
 
     #[cycle(expressions)]
-    fn ends(
-        &mut self,
-        bytes: &[u8],
-        tables: &Tables,
-        constituents: Members,
-        results: Members,
-        again: Members,
-        scope: &Scope,
-        room: usize,
-    ) -> Result<(), Stop>
-        requires { length (names scope.now) < 96 }
-        ensures later { self.old.at ≤ self.new.at }
-        ensures reads { EndsRead (counts_of tables.now) (length (used results)) (length (used constituents)) (ends_at (end (context_of tables.now) room bytes.now) (used results) (used again) (used constituents) (names scope.now) self.old.at) self.old.nodes.items self.new.nodes.items self.new.at result }
+    fn ends(&mut self, scene: &Scene, constituents: Members, enclosing: Enclosing) -> Result<(), Refusal>
+        requires { length (names_in scene.now) < 96 }
+        ensures { GoesOn (EndsRead (counts_in scene.now) (length (used enclosing.results)) (length (used constituents)) (ends_at (end_in scene.now) (used enclosing.results) (used enclosing.names) (used constituents) (names_in scene.now) self.old.at)) self.old self.new result }
     {
-        for i in 0..constituents.count() {
-            self.end_arm(bytes, tables, constituents, i, results, again, scope, room)?;
+        for constituent in constituents.as_slice() {
+            let scope = &scene.scope.with(*constituent);
+            self.end(&Scene { scope, ..*scene }, enclosing)?;
         }
-        Ok(())
-    }
-
-    #[cycle(expressions)]
-    fn end_arm(
-        &mut self,
-        bytes: &[u8],
-        tables: &Tables,
-        constituents: Members,
-        i: u8,
-        results: Members,
-        again: Members,
-        scope: &Scope,
-        room: usize,
-    ) -> Result<(), Stop>
-        requires { (length (names scope.now) < 96) × (i < length (used constituents)) }
-        ensures later { self.old.at ≤ self.new.at }
-        ensures reads { EndRead (counts_of tables.now) (length (used results)) (end (context_of tables.now) room bytes.now (used results) (used again) ((names scope.now) ++ slice_index (used constituents) i ∷ []) self.old.at) self.old.nodes.items self.new.nodes.items self.new.at result }
-    {
-        let Some(constituent) = constituents.get(i) else {
-            unreachable()
-        };
-        let Some(inner) = scope.with(constituent) else {
-            unreachable()
-        };
-        self.end(bytes, tables, results, again, &inner, room)?;
         Ok(())
     }
 }
