@@ -4,7 +4,7 @@ ghost use Rattle.numbers.specs.Booleans.{both, either, inverse, is_error, is_fau
 use crate::fault::{BasicFault, Fault};
 
 // A truth value or one of the two error values that a boolean has.
-#[derive(Clone, Copy)]
+#[derive(Clone, Copy, Debug, PartialEq, Eq)]
 pub enum Boolean {
     Proper(bool),
     Error(BasicFault),
@@ -42,10 +42,7 @@ impl Boolean {
     pub fn is_error(self) -> bool
         ensures { result ≡ is_error self }
     {
-        match self {
-            Boolean::Proper(_) => false,
-            Boolean::Error(_) => true,
-        }
+        matches!(self, Boolean::Error(_))
     }
 
     // Whether this is that error value.
@@ -54,7 +51,7 @@ impl Boolean {
     {
         match self {
             Boolean::Proper(_) => false,
-            Boolean::Error(own) => own.widen().code() == fault.code(),
+            Boolean::Error(own) => Fault::from(own) == fault,
         }
     }
 }

@@ -1,63 +1,98 @@
 ghost use Rattle.std.specs.Prelude.{◌≡◌};
-ghost use Rattle.numbers.specs.Faults.{code_of, of_code, basic_of};
+ghost use Rattle.numbers.specs.Faults.{code_of, basic_of, Decodes, Narrows};
 
-// The six error values of an integer.
-#[derive(Clone, Copy)]
+use std::error::Error;
+use std::fmt;
+
+// The six error values of an integer, with their numbers in bytes.
+#[derive(Clone, Copy, Debug, PartialEq, Eq)]
 pub enum Fault {
-    Undef,
-    MissElt,
-    PosOver,
-    NegOver,
-    Unknown,
-    ZeroDivide,
+    Undef = 1,
+    MissElt = 2,
+    PosOver = 3,
+    NegOver = 4,
+    Unknown = 5,
+    ZeroDivide = 6,
 }
 
 // The two error values that every type has; a boolean has no others.
-#[derive(Clone, Copy)]
+#[derive(Clone, Copy, Debug, PartialEq, Eq)]
 pub enum BasicFault {
     Undef,
     MissElt,
 }
 
-impl Fault {
-    // The error's number in bytes: 1 to 6, in the order of the variants.
-    pub fn code(self) -> u8
-        ensures { result ≡ code_of self }
-    {
-        match self {
-            Fault::Undef => 1,
-            Fault::MissElt => 2,
-            Fault::PosOver => 3,
-            Fault::NegOver => 4,
-            Fault::Unknown => 5,
-            Fault::ZeroDivide => 6,
-        }
-    }
+// A number that no error value has.
+#[derive(Clone, Copy, Debug, PartialEq, Eq)]
+pub struct UnknownCode(pub u8);
 
-    // The error with this number, if there is one.
-    pub fn from_code(code: u8) -> Option<Fault>
-        ensures { result ≡ of_code code }
-    {
+// An error value that only integers have.
+#[derive(Clone, Copy, Debug, PartialEq, Eq)]
+pub struct IntegersOnly(pub Fault);
+
+impl From<Fault> for u8 {
+    ghost from_gives = { λ fault code. code ≡ code_of fault };
+
+    fn from(fault: Fault) -> u8 {
+        fault as u8
+    }
+}
+
+impl TryFrom<u8> for Fault {
+    type Error = UnknownCode;
+
+    ghost try_from_gives = { Decodes };
+
+    fn try_from(code: u8) -> Result<Fault, UnknownCode> {
         match code {
-            1 => Some(Fault::Undef),
-            2 => Some(Fault::MissElt),
-            3 => Some(Fault::PosOver),
-            4 => Some(Fault::NegOver),
-            5 => Some(Fault::Unknown),
-            6 => Some(Fault::ZeroDivide),
-            _ => None,
+            1 => Ok(Fault::Undef),
+            2 => Ok(Fault::MissElt),
+            3 => Ok(Fault::PosOver),
+            4 => Ok(Fault::NegOver),
+            5 => Ok(Fault::Unknown),
+            6 => Ok(Fault::ZeroDivide),
+            _ => Err(UnknownCode(code)),
         }
     }
 }
 
-impl BasicFault {
-    // The same error as one of an integer's six.
-    pub fn widen(self) -> Fault
-        ensures { result ≡ basic_of self }
-    {
-        match self {
+impl From<BasicFault> for Fault {
+    ghost from_gives = { λ basic fault. fault ≡ basic_of basic };
+
+    fn from(basic: BasicFault) -> Fault {
+        match basic {
             BasicFault::Undef => Fault::Undef,
             BasicFault::MissElt => Fault::MissElt,
         }
     }
 }
+
+impl TryFrom<Fault> for BasicFault {
+    type Error = IntegersOnly;
+
+    ghost try_from_gives = { Narrows };
+
+    fn try_from(fault: Fault) -> Result<BasicFault, IntegersOnly> {
+        match fault {
+            Fault::Undef => Ok(BasicFault::Undef),
+            Fault::MissElt => Ok(BasicFault::MissElt),
+            _ => Err(IntegersOnly(fault)),
+        }
+    }
+}
+
+impl fmt::Display for UnknownCode {
+    fn fmt<W: fmt::Write>(&self, f: &mut fmt::Formatter<W>) -> fmt::Result {
+        write!(f, "no error value has the number {}", self.0)
+    }
+}
+
+impl Error for UnknownCode {}
+
+impl fmt::Display for IntegersOnly {
+    fn fmt<W: fmt::Write>(&self, f: &mut fmt::Formatter<W>) -> fmt::Result {
+        write!(f, "only integers have the error value {}", self.0)
+    }
+}
+
+impl Error for IntegersOnly {}

@@ -5,7 +5,7 @@ use crate::fault::Fault;
 use crate::number::Number;
 
 // A proper number or one of the six error values.
-#[derive(Clone, Copy)]
+#[derive(Clone, Copy, Debug, PartialEq, Eq)]
 pub enum Integer {
     Proper(Number),
     Error(Fault),
@@ -22,42 +22,30 @@ impl Integer {
         if value < -2147483647 {
             return Integer::Error(Fault::NegOver);
         }
-        match Number::new(value as i32) {
-            Some(number) => Integer::Proper(number),
-            None => Integer::Error(Fault::NegOver),
-        }
+        Integer::Proper(Number::new(value as i32).unwrap())
     }
 
     // Whether this is an error value.
     pub fn is_error(self) -> bool
         ensures { result ≡ is_error self }
     {
-        match self {
-            Integer::Proper(_) => false,
-            Integer::Error(_) => true,
-        }
+        matches!(self, Integer::Error(_))
     }
 
     // Whether this is that error value.
     pub fn is_fault(self, fault: Fault) -> bool
         ensures { result ≡ is_fault fault self }
     {
-        match self {
-            Integer::Proper(_) => false,
-            Integer::Error(own) => own.code() == fault.code(),
-        }
+        self == Integer::Error(fault)
     }
 
     // Whether this is undef, miss_elt or zero_divide, to which no rule of arithmetic applies.
     pub fn is_barred(self) -> bool
         ensures { result ≡ barred self }
     {
-        match self {
-            Integer::Proper(_) => false,
-            Integer::Error(fault) => match fault {
-                Fault::Undef | Fault::MissElt | Fault::ZeroDivide => true,
-                Fault::PosOver | Fault::NegOver | Fault::Unknown => false,
-            },
-        }
+        matches!(
+            self,
+            Integer::Error(Fault::Undef | Fault::MissElt | Fault::ZeroDivide)
+        )
     }
 }

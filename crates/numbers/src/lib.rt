@@ -8,6 +8,6 @@ mod number;
 mod words;
 
 pub use boolean::Boolean;
-pub use fault::{BasicFault, Fault};
+pub use fault::{BasicFault, Fault, IntegersOnly, UnknownCode};
 pub use integer::Integer;
 pub use number::Number;

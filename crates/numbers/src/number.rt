@@ -1,7 +1,7 @@
 ghost use Rattle.std.specs.Prelude.{◌≡◌, pos, negsuc, ◌≤ℤ◌, MatchOption};
 
 // A proper number: -2147483647 to 2147483647. The 32-bit number below these is none.
-#[derive(Clone, Copy)]
+#[derive(Clone, Copy, Debug, PartialEq, Eq)]
 pub struct Number {
     value: i32,
     ghost proper: { (negsuc 2147483646 ≤ℤ value) × (value ≤ℤ pos 2147483647) },
@@ -23,11 +23,13 @@ impl Number {
     {
         self.value
     }
+}
 
-    // The value at 64 bits, where sums, products and negations of two numbers are exact.
-    pub fn wide(self) -> i64
-        ensures { result ≡ self.value }
-    {
-        i64::from(self.value)
+// At 64 bits sums, products and negations of two numbers are exact.
+impl From<Number> for i64 {
+    ghost from_gives = { λ number wide. wide ≡ number.value };
+
+    fn from(number: Number) -> i64 {
+        i64::from(number.value)
     }
 }

@@ -22,16 +22,21 @@ impl Fault {
     }
 }
 
+impl fmt::Display for Fault {
+    ghost output = { λ fault. Some (word_of fault) };
+
+    fn fmt<W: fmt::Write>(&self, f: &mut fmt::Formatter<W>) -> fmt::Result {
+        f.write_str(self.word())
+    }
+}
+
 impl fmt::Display for Integer {
     ghost output = { λ x. Some (integer_text x) };
 
     fn fmt<W: fmt::Write>(&self, f: &mut fmt::Formatter<W>) -> fmt::Result {
         match *self {
-            Integer::Proper(n) => {
-                let value = n.get();
-                write!(f, "{value}")
-            }
-            Integer::Error(fault) => f.write_str(fault.word()),
+            Integer::Proper(number) => write!(f, "{}", number.get()),
+            Integer::Error(fault) => write!(f, "{fault}"),
         }
     }
 }
@@ -41,9 +46,8 @@ impl fmt::Display for Boolean {
 
     fn fmt<W: fmt::Write>(&self, f: &mut fmt::Formatter<W>) -> fmt::Result {
         match *self {
-            Boolean::Proper(true) => f.write_str("true"),
-            Boolean::Proper(false) => f.write_str("false"),
-            Boolean::Error(fault) => f.write_str(fault.widen().word()),
+            Boolean::Proper(truth) => write!(f, "{truth}"),
+            Boolean::Error(basic) => write!(f, "{}", Fault::from(basic)),
         }
     }
 }

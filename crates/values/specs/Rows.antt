@@ -1,6 +1,6 @@
 -- Type tables: rows that use lower type numbers only, and the types that they stand for.
 use Rattle.std.specs.Prelude.{◌≡◌, ℕ, ◌+◌, Bool, true, ◌&&◌, List, [], ◌∷◌, ◌++◌, length, take, Option, nat_le, nat_lt, slice_index_or}
-use Rattle.std.specs.List.{slice_get}
+use Rattle.std.specs.List.{list_all, slice_get}
 use Rattle.values.specs.declared.members.Members.{Members}
 use Rattle.values.specs.declared.row.Row.{Row}
 use Rattle.values.specs.declared.row.Row.TheVariants.{Array, Record, Union}
@@ -12,8 +12,7 @@ used m = take m.count m.numbers
 
 -- Whether each number is below a limit.
 abbrev pub all_below : ℕ → List ℕ → Bool
-all_below limit [] = true
-all_below limit (n ∷ ns) = nat_lt n limit && all_below limit ns
+all_below limit = list_all (λ n. nat_lt n limit)
 
 -- The type numbers that a row uses.
 abbrev pub uses : Row → List ℕ

@@ -2,6 +2,7 @@
 #![tactic(auto)]
 
 mod encodings;
+mod equality;
 mod members;
 mod refusal;
 mod row;
@@ -9,6 +10,7 @@ mod row_error;
 mod types;
 
 pub use encodings::encodings_stand;
+pub use equality::equality_stands;
 pub use members::Members;
 pub use refusal::Refusal;
 pub use row::Row;

@@ -1,6 +1,10 @@
-ghost use Rattle.std.specs.Prelude.{◌≡◌, ℕ, ◌<◌, ◌≤◌, ◌⊎◌, length, Decides, MatchOption};
-ghost use Rattle.values.specs.Rows.{used, all_below};
+ghost use Rattle.std.specs.Prelude.{◌≡◌, ℕ, ◌<◌, ◌≤◌, ◌⊎◌, ◌↔◌, IsTrue, length, nat_eq, MatchOption};
+ghost use Rattle.std.specs.Ordering.{on};
+ghost use Rattle.std.specs.Cmp.Rules.{comparing};
+ghost use Rattle.std.specs.Cmp.Lexicographic.{pointwise};
 ghost use Rattle.std.specs.List.{slice_get};
+ghost use Rattle.std.proofs.Common.{rules};
+ghost use Rattle.values.specs.Rows.{used, all_below};
 
 use crate::members::Members;
 
@@ -18,6 +22,13 @@ impl Members {
         Some(Members { numbers, count })
     }
 
+    // The type numbers.
+    pub fn as_slice(&self) -> &[u8]
+        ensures { result.now ≡ used self.now }
+    {
+        &self.numbers[..self.count as usize]
+    }
+
     // How many there are.
     pub fn count(self) -> u8
         ensures { result ≡ length (used self) }
@@ -29,29 +40,24 @@ impl Members {
     pub fn get(self, index: u8) -> Option<u8>
         ensures { result ≡ slice_get (used self) index }
     {
-        if index < self.count {
-            Some(self.numbers[index as usize])
-        } else {
-            None
-        }
+        self.as_slice().get(index as usize).copied()
     }
 
     // Whether each is below a limit.
     pub fn all_below(self, limit: u8) -> bool
         ensures { result ≡ all_below limit (used self) }
     {
-        for i in 0..self.count {
-            if self.numbers[i as usize] >= limit {
-                return false;
-            }
-        }
-        true
+        self.as_slice().iter().all(|&number| number < limit)
     }
+}
 
-    // Whether these are the same numbers in the same order.
-    pub fn same(self, other: Members) -> bool
-        ensures { Decides result (used self ≡ used other) }
-    {
-        self.numbers[0..self.count as usize] == other.numbers[0..other.count as usize]
+// By hand, since numbers behind the count do not matter.
+impl PartialEq for Members {
+    ghost eq = { on used (pointwise nat_eq) };
+
+    ghost laws = { Prim.search (comparing, rules) };
+
+    fn eq(&self, other: &Members) -> bool {
+        self.as_slice() == other.as_slice()
     }
 }

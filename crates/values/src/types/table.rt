@@ -22,19 +22,19 @@ impl Types {
         self.rows.len()
     }
 
+    // The rows, the first with the number 2.
+    pub fn as_slice(&self) -> &[Row]
+        ensures { result.now ≡ rows_of self.now }
+    {
+        self.rows.as_slice()
+    }
+
     // The row of a type number, if the table has one: boolean and integer are no rows.
     pub fn row(&self, number: u8) -> Option<Row>
         ensures { result ≡ row_of (rows_of self.now) number }
     {
-        if number < 2 {
-            return None;
-        }
-        let at = number as usize - 2;
-        if at < self.rows.len() {
-            Some(self.rows[at])
-        } else {
-            None
-        }
+        let place = number.checked_sub(2)?;
+        self.rows.get(place as usize).copied()
     }
 
     // Adds a row under the next number, and answers it.

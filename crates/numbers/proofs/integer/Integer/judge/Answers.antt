@@ -9,5 +9,7 @@ returns-then-value-gt2147483647 c = sym (judged_above c.args.value (omega (arith
 pub returns-then-value-ltminus2147483647 : goal.returns-then-value-ltminus2147483647
 returns-then-value-ltminus2147483647 c = sym (judged_below c.args.value (omega (arith, ints)))
 
-pub returns-in-Some : goal.returns-in-Some
-returns-in-Some c = sym (judged_proper c.args.value c.in-Some.number (c.in-Some.ensures ∙ omega (arith, ints)))
+pub returns : goal.returns
+returns c =
+    let kept = rw c.unwrap.ensures at c.new.ensures in
+    sym (judged_proper c.args.value c.unwrap.result (kept ∙ omega (arith, ints)))
