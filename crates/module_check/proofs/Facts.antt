@@ -1,5 +1,5 @@
 -- Facts on lists of types that the reading functions share.
-use Rattle.std.proofs.Common.{◌≡◌, ℕ, ◌+◌, ◌-◌, ◌<◌, ◌≤◌, Bool, true, false, cond, ◌&&◌, eqb, List, [], ◌∷◌, ◌++◌, length, get_or, take, drop, set, replicate, Some, None, sym, refl, ap, ◌∙◌, subst, ap₂, arith, length-append, length-take}
+use Rattle.std.proofs.Common.{◌≡◌, ℕ, ◌+◌, ◌-◌, ◌<◌, ◌≤◌, Bool, true, false, cond, ◌&&◌, eqb, List, [], ◌∷◌, ◌++◌, length, get_or, take, drop, set, replicate, Some, None, sym, refl, ap, ◌∙◌, subst, ap₂, inl, inr, arith, length-append, length-take}
 use lib.ListN.{length-replicate}
 use Rattle.std.specs.List.{slice_get}
 use Rattle.std.proofs.lemmas.List.{get_or-take, take_more, take_all, drop-drop, drop-replicate, drop-set-lt, take-append-drop, append_assoc, length-map, get_or-map}
@@ -8,14 +8,13 @@ use Rattle.std.proofs.lemmas.Bool.Decides.{nat_tests}
 use Rattle.language.specs.Sorts.{same}
 use Rattle.verdict.specs.Judging.{every}
 use Rattle.verdict.specs.Outcomes.{Out, accepted, after, each}
+use Rattle.values.specs.declared.refusal.Refusal.{Refusal}
 use Rattle.values.specs.declared.members.Members.{Members}
 use Rattle.values.specs.Rows.{used}
 use Rattle.verdict.specs.Bodies.{members_of}
 use Rattle.verdict.proofs.Each.{Going, going_fails, going_all}
 use Rattle.verdict.proofs.Sames.{same_refl, same_true}
 use Rattle.verdict.proofs.Members.{members_zeroed}
-use Rattle.module_check.specs.declared.stop.Stop.{Stop}
-use Rattle.module_check.specs.declared.stop.Stop.TheVariants.{Declined, Memory}
 use Rattle.language.specs.declared.function.Function as code
 use Rattle.module_check.specs.Views.{seen, seen_all}
 use Rattle.module_check.specs.Reading.{Declines}
@@ -94,13 +93,13 @@ pub front_long : (ns front xs : List ℕ) (i : ℕ) → i ≤ length xs → ns �
 front_long ns front xs i l e = omega (arith, ap length e, length-append front (take i xs), length-take i xs)
 
 -- What fails first fails the whole.
-pub declines_after : {A B : Type 0} (o : Out A) (f : A → ℕ → Out B) (e : Stop) → Declines o e → Declines (after o f) e
-declines_after o f (Declined w) h = rw h
-declines_after o f Memory h = tt
+pub declines_after : {A B : Type 0} (o : Out A) (f : A → ℕ → Out B) (e : Refusal) → Declines o e → Declines (after o f) e
+declines_after o f e (inl m) = inl m
+declines_after o f e (inr h) = inr (ap (λ z. after z f) h)
 
-pub going_declines : {A B : Type 0} (f : A → ℕ → Out B) (xs : List A) (start i place : ℕ) (d : A) (done : List B) (e : Stop) → i < length xs → Declines (f (get_or xs i d) place) e → Going f xs start i done place → Declines (each f xs start) e
-going_declines f xs start i place d done (Declined w) lt h g = going_fails f xs start i place d done w lt h g
-going_declines f xs start i place d done Memory lt h g = tt
+pub going_declines : {A B : Type 0} (f : A → ℕ → Out B) (xs : List A) (start i place : ℕ) (d : A) (done : List B) (e : Refusal) → i < length xs → Declines (f (get_or xs i d) place) e → Going f xs start i done place → Declines (each f xs start) e
+going_declines f xs start i place d done e lt (inl m) g = inl m
+going_declines f xs start i place d done e lt (inr h) g = inr (going_fails f xs start i place d done e lt h g)
 
 -- Places that are filled up to a count are members, and what was read.
 pub filled : (f : Unit {0} → ℕ → Out ℕ) (n start i place : ℕ) (numbers : List ℕ) (m : Members) → n ≤ i → i ≤ n → length numbers ≡ 8 → drop i numbers ≡ replicate (8 - i) 0 → Going f (replicate n tt) start i (take i numbers) place → m.numbers ≡ numbers → m.count ≡ n → (each f (replicate n tt) start ≡ accepted (used m) place) × (m ≡ members_of (used m))

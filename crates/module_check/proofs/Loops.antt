@@ -1,9 +1,10 @@
 -- Loops over members, arms and ends: what has been read so far.
-use Rattle.std.proofs.Common.{◌≡◌, ℕ, zero, suc, ◌+◌, ◌<◌, ◌≤◌, Bool, true, false, cond, ◌&&◌, eqb, List, [], ◌∷◌, ◌++◌, length, get_or, take, set, replicate, Ok, sym, refl, ap, ◌∙◌, ap₂, arith}
+use Rattle.std.proofs.Common.{◌≡◌, ℕ, zero, suc, ◌+◌, ◌<◌, ◌≤◌, Bool, true, false, cond, ◌&&◌, eqb, List, [], ◌∷◌, ◌++◌, length, get_or, take, set, replicate, Some, None, Ok, Option, sym, refl, ap, ◌∙◌, ap₂, arith}
 use lib.ListN.{length-replicate}
 use Rattle.std.proofs.lemmas.List.{append_assoc, append-nil, length_push, take_more_set}
 use Rattle.std.proofs.lemmas.Bool.Decides.{nat_tests}
 use Rattle.std.proofs.lemmas.Bool.{ne_eqb}
+use Rattle.values.specs.declared.refusal.Refusal.{Refusal}
 use Rattle.values.specs.declared.members.Members.{Members}
 use Rattle.values.specs.declared.refusal.Refusal.TheVariants.{Clash}
 use Rattle.values.specs.Rows.{used}
@@ -19,7 +20,6 @@ use Rattle.verdict.specs.Judging.{Typed, typed, single, singles, firsts, agree, 
 use Rattle.verdict.specs.Expressions.{Reads, Ends, members_at, list_at, arms_at, ends_at}
 use Rattle.verdict.proofs.Each.{Going, going_none, going_more, going_all}
 use Rattle.verdict.proofs.Sound.{count_trees}
-use Rattle.module_check.specs.declared.stop.Stop.{Stop}
 use Rattle.module_check.specs.Reading.{Declines, PartsRead, ArmsRead, EndsRead}
 use Rattle.module_check.proofs.Facts.{declines_after, going_declines}
 
@@ -84,7 +84,7 @@ module _ (counts : List ℕ) (ex : Reads) (Γ : List ℕ) (n start : ℕ) (befor
         take_more_set numbers i t l ∙ (ap₂ (λ y z. y ++ z ∷ []) L.5 h ∙ sym (firsts_push xs a)),
       )
 
-  pub listing_fails : (p i : ℕ) (numbers : List ℕ) (flag : Bool) (nodes : List Node) (place : ℕ) (e : Stop) → Listing counts ex Γ n start before i numbers flag nodes place → i < n → Declines (ex Γ place) e → Declines (list_at ex n Γ p start) e
+  pub listing_fails : (p i : ℕ) (numbers : List ℕ) (flag : Bool) (nodes : List Node) (place : ℕ) (e : Refusal) → Listing counts ex Γ n start before i numbers flag nodes place → i < n → Declines (ex Γ place) e → Declines (list_at ex n Γ p start) e
   listing_fails p i numbers flag nodes place e L lt d =
       declines_after (members_at ex n Γ start) _ e (going_declines (λ (_ : Unit {0}) r. ex Γ r) (replicate n tt) start i place tt L.0 e (omega (arith, length-replicate {A = Unit {0}} n tt)) d L.1)
 
@@ -112,6 +112,11 @@ module _ (counts : List ℕ) (ex : Reads) (Γ : List ℕ) (n start : ℕ) (befor
         L.2,
         count_trees L.0 ∙ (sym (firsts_long L.0) ∙ ap length u),
       )
+
+-- The types that the arms share, once there is one.
+abbrev pub shared : Option Members → List ℕ
+shared (Some m) = used m
+shared None = []
 
 -- The arms of a tagcase; ts are the types of the first, once there is one.
 abbrev pub Arming : List ℕ → Reads → List ℕ → List ℕ → (start : ℕ) → List Node → List ℕ → (i : ℕ) → Bool → List Node → ℕ → Type 0
@@ -151,7 +156,7 @@ module _ (counts : List ℕ) (ex : Reads) (us Γ : List ℕ) (start : ℕ) (befo
         λ h. t.1,
       )
 
-  pub arming_fails : (p i : ℕ) (flag : Bool) (nodes : List Node) (place : ℕ) (ts : List ℕ) (e : Stop) → Arming counts ex us Γ start before ts i flag nodes place → i < length us → Declines (ex (Γ ++ get_or us i 0 ∷ []) place) e → Declines (after (arms_at ex us Γ start) (λ xs q. judged (Clash p) (agree (first_types xs) xs) xs q)) e
+  pub arming_fails : (p i : ℕ) (flag : Bool) (nodes : List Node) (place : ℕ) (ts : List ℕ) (e : Refusal) → Arming counts ex us Γ start before ts i flag nodes place → i < length us → Declines (ex (Γ ++ get_or us i 0 ∷ []) place) e → Declines (after (arms_at ex us Γ start) (λ xs q. judged (Clash p) (agree (first_types xs) xs) xs q)) e
   arming_fails p i flag nodes place ts e L lt d =
       declines_after (arms_at ex us Γ start) _ e (going_declines (λ u r. ex (Γ ++ u ∷ []) r) us start i place 0 L.0 e lt d L.1)
 
@@ -187,7 +192,7 @@ module _ (counts : List ℕ) (en : Ends) (ts again us Γ : List ℕ) (start : �
     omega (arith, length_push L.0 l, L.3),
   )
 
-  pub ending_fails : (i : ℕ) (nodes : List Node) (place : ℕ) (e : Stop) → Ending counts en ts again us Γ start before i nodes place → i < length us → Declines (en ts again (Γ ++ get_or us i 0 ∷ []) place) e → Declines (ends_at en ts again us Γ start) e
+  pub ending_fails : (i : ℕ) (nodes : List Node) (place : ℕ) (e : Refusal) → Ending counts en ts again us Γ start before i nodes place → i < length us → Declines (en ts again (Γ ++ get_or us i 0 ∷ []) place) e → Declines (ends_at en ts again us Γ start) e
   ending_fails i nodes place e L lt d = going_declines (λ u r. en ts again (Γ ++ u ∷ []) r) us start i place 0 L.0 e lt d L.1
 
   pub ending_done : (i : ℕ) (nodes : List Node) (place : ℕ) → Ending counts en ts again us Γ start before i nodes place → length us ≤ i → i ≤ length us → EndsRead counts (length ts) (length us) (ends_at en ts again us Γ start) before nodes place (Ok tt)

@@ -5,6 +5,7 @@ use Rattle.std.proofs.lemmas.List.{append_assoc, append-nil, take_more, take_all
 use Rattle.std.proofs.lemmas.Option.{slice_get-get_or}
 use Rattle.std.proofs.lemmas.Bool.{le-ltb, le-leb, eq-eqb}
 use Rattle.std.proofs.lemmas.Bool.Decides.{nat_tests}
+use Rattle.values.specs.declared.refusal.Refusal.{Refusal}
 use Rattle.values.specs.declared.row.Row.{Row}
 use Rattle.values.specs.Tables.{row_of}
 use Rattle.language.specs.declared.function.Function as code
@@ -20,7 +21,6 @@ use Rattle.verdict.specs.Expressions.{expr}
 use Rattle.verdict.specs.Modules.{row_at, rows_at, function_at, functions_at, module_at}
 use Rattle.verdict.proofs.Spans.{not_none}
 use Rattle.verdict.proofs.SoundModules.{signatures_push}
-use Rattle.module_check.specs.declared.stop.Stop.{Stop}
 use Rattle.module_check.specs.Views.{seen, seen_all}
 use Rattle.module_check.specs.Reading.{Declines}
 use Rattle.module_check.proofs.Facts.{declines_after}
@@ -88,7 +88,7 @@ module _ (n : ℕ) (bs : List ℕ) (first : List Row) (start : ℕ) where
       let m : n - i ≡ suc (n - (i + 1)) = omega arith in
       h ∙ (ap (λ k. rows_at k bs rows place) m ∙ (rw e (ap (λ z. rows_at (n - (i + 1)) bs z next) (sym f))))
 
-  pub rowing_fails : (i : ℕ) (rows : List Row) (place : ℕ) (e : Stop) → Rowing i rows place → i < n → Declines (row_at bs rows place) e → Declines (rows_at n bs first start) e
+  pub rowing_fails : (i : ℕ) (rows : List Row) (place : ℕ) (e : Refusal) → Rowing i rows place → i < n → Declines (row_at bs rows place) e → Declines (rows_at n bs first start) e
   unfolding rows_at
   rowing_fails i rows place e h lt d =
       let m : n - i ≡ suc (n - (i + 1)) = omega arith in
@@ -150,7 +150,7 @@ module _ (n : ℕ) (rows : List Row) (bs : List ℕ) (start : ℕ) where
       zero_plus : (k : ℕ) → k ≡ 0 + k
       zero_plus k = omega arith
 
-  pub defining_fails : (i : ℕ) (fs : List code.Function) (nodes : List Node) (place : ℕ) (e : Stop) → Defining i fs nodes place → i < n → Declines (function_at (context rows (seen_all fs)) bs place) e → Declines (functions_at n rows bs [] start) e
+  pub defining_fails : (i : ℕ) (fs : List code.Function) (nodes : List Node) (place : ℕ) (e : Refusal) → Defining i fs nodes place → i < n → Declines (function_at (context rows (seen_all fs)) bs place) e → Declines (functions_at n rows bs [] start) e
   unfolding functions_at
   defining_fails i fs nodes place e D lt d =
       let k : n - i ≡ suc (n - (i + 1)) = omega arith in

@@ -1,8 +1,6 @@
-ghost use Rattle.std.specs.Prelude.{◌≡◌};
-ghost use Rattle.std.specs.Result.{result_ok};
-ghost use Rattle.verdict.specs.Outcomes.{lookup};
-
 use language::{Leaf, Merge, One, Two};
+use std::error::Error;
+use std::fmt;
 use values::Members;
 
 // What the kind byte of an expression's record, or of the end of a loop, says.
@@ -29,15 +27,16 @@ pub enum Sort {
 }
 
 // A byte that is no kind.
-#[derive(Clone, Copy, PartialEq, Eq, Debug)]
-pub struct UnknownKind;
+#[derive(Clone, Copy, Debug, PartialEq, Eq)]
+pub struct UnknownKind(pub u8);
 
 impl TryFrom<u8> for Sort {
     ghost use Rattle.verdict.specs.Bodies.{end_sorts};
+    ghost use Rattle.verdict.specs.Kinds.{Decodes};
 
     type Error = UnknownKind;
 
-    ghost try_from_gives = { λ byte r. result_ok r ≡ lookup end_sorts byte };
+    ghost try_from_gives = { Decodes end_sorts };
 
     fn try_from(byte: u8) -> Result<Sort, UnknownKind> {
         match byte {
@@ -59,7 +58,7 @@ impl TryFrom<u8> for Sort {
             0x3F => Ok(Sort::Union),
             0x40 => Ok(Sort::Array),
             0x42 => Ok(Sort::Element),
-            _ => Err(UnknownKind),
+            _ => Err(UnknownKind(byte)),
         }
     }
 }
@@ -94,17 +93,26 @@ pub enum Shape {
 
 impl TryFrom<u8> for Shape {
     ghost use Rattle.verdict.specs.Modules.{shapes};
+    ghost use Rattle.verdict.specs.Kinds.{Decodes};
 
     type Error = UnknownKind;
 
-    ghost try_from_gives = { λ byte r. result_ok r ≡ lookup shapes byte };
+    ghost try_from_gives = { Decodes shapes };
 
     fn try_from(byte: u8) -> Result<Shape, UnknownKind> {
         match byte {
             0x12 => Ok(Shape::Array),
             0x13 => Ok(Shape::Record),
             0x14 => Ok(Shape::Union),
-            _ => Err(UnknownKind),
+            _ => Err(UnknownKind(byte)),
         }
     }
 }
+
+impl fmt::Display for UnknownKind {
+    fn fmt<W: fmt::Write>(&self, f: &mut fmt::Formatter<W>) -> fmt::Result {
+        write!(f, "no kind has the byte {}", self.0)
+    }
+}
+
+impl Error for UnknownKind {}

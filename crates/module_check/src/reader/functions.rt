@@ -5,8 +5,8 @@ ghost use Rattle.module_check.specs.Views.{context_of, counts_of};
 ghost use Rattle.module_check.specs.Reading.{FunctionRead, FunctionsRead, ModuleRead};
 
 use crate::reader::Reader;
-use crate::scope::Scope;
 use crate::scene::Scene;
+use crate::scope::Scope;
 use crate::tables::Tables;
 use language::Function;
 use values::Refusal;

@@ -70,7 +70,7 @@ fn operator_of(code: u8) -> Option<Head>
 
 // The number that four bytes say, if it is a proper one.
 fn number_from(bytes: [u8; 4]) -> Option<Number>
-    ensures { result ≡ number_from (slice_index bytes.entry 0) (slice_index bytes.entry 1) (slice_index bytes.entry 2) (slice_index bytes.entry 3) }
+    ensures { result ≡ number_from (slice_index bytes 0) (slice_index bytes 1) (slice_index bytes 2) (slice_index bytes 3) }
 {
     Number::new(i32::from_be_bytes(bytes))
 }
@@ -89,7 +89,9 @@ pub(crate) fn has_fault(number: u8, fault: Fault) -> bool
 fn fault_of(number: u8, code: u8) -> Option<Fault>
     ensures { result ≡ fault_if number (of_code code) }
 {
-    Fault::from_code(code).filter(|fault| has_fault(number, *fault))
+    Fault::try_from(code)
+        .ok()
+        .filter(|fault| has_fault(number, *fault))
 }
 
 // The type of an array row's elements.

@@ -341,7 +341,12 @@ impl Reader {
     }
 
     // The scope with the names that the record at start binds.
-    pub(crate) fn extend(&self, scope: &Scope, more: Members, start: usize) -> Result<Scope, Refusal>
+    pub(crate) fn extend(
+        &self,
+        scope: &Scope,
+        more: Members,
+        start: usize,
+    ) -> Result<Scope, Refusal>
         ensures { Extended (bound (names scope.now) (used more) start self.now.at) self.now.at result }
     {
         scope.with_all(more).ok_or(Refusal::Deep(start))

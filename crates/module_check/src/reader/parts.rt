@@ -169,7 +169,12 @@ impl Reader {
 
     // An arm for each constituent; all have the types of the first.
     #[cycle(expressions)]
-    fn arms(&mut self, scene: &Scene, constituents: Members, start: usize) -> Result<Members, Refusal>
+    fn arms(
+        &mut self,
+        scene: &Scene,
+        constituents: Members,
+        start: usize,
+    ) -> Result<Members, Refusal>
         requires { length (names_in scene.now) < 96 }
         ensures { GoesOn (ArmsRead (counts_in scene.now) start (length (used constituents)) (arms_at (expr_in scene.now) (used constituents) (names_in scene.now) self.old.at)) self.old self.new result }
     {
@@ -199,7 +204,13 @@ impl Reader {
     }
 
     #[cycle(expressions)]
-    fn forall(&mut self, scene: &Scene, merge: Merge, part: u8, start: usize) -> Result<Members, Refusal>
+    fn forall(
+        &mut self,
+        scene: &Scene,
+        merge: Merge,
+        part: u8,
+        start: usize,
+    ) -> Result<Members, Refusal>
         ensures { GoesOn (PartsRead (counts_in scene.now) (forall_head merge part) (forall_at (expr_in scene.now) merge part (names_in scene.now) start self.old.at)) self.old self.new result }
     {
         let low = self.expr(scene)?;
@@ -215,7 +226,12 @@ impl Reader {
 
     // An expression of these types; the record at start is at fault where it has others.
     #[cycle(expressions)]
-    pub(crate) fn asked(&mut self, scene: &Scene, types: Members, start: usize) -> Result<(), Refusal>
+    pub(crate) fn asked(
+        &mut self,
+        scene: &Scene,
+        types: Members,
+        start: usize,
+    ) -> Result<(), Refusal>
         ensures { GoesOn (AskedRead (counts_in scene.now) (used types) start (expr_in scene.now (names_in scene.now) self.old.at)) self.old self.new result }
     {
         if alike(types, self.expr(scene)?) {
@@ -251,7 +267,13 @@ impl Reader {
 
     // The parts of the record at start; an iter carries the types of the loop's names.
     #[cycle(expressions)]
-    fn end_parts(&mut self, scene: &Scene, head: Head, enclosing: Enclosing, start: usize) -> Result<(), Refusal>
+    fn end_parts(
+        &mut self,
+        scene: &Scene,
+        head: Head,
+        enclosing: Enclosing,
+        start: usize,
+    ) -> Result<(), Refusal>
         ensures { GoesOn (EndPartsRead (counts_in scene.now) (used enclosing.results) head (end_parts_at (context_in scene.now) (expr_in scene.now) (end_in scene.now) head (used enclosing.results) (used enclosing.names) (names_in scene.now) start self.old.at)) self.old self.new result }
     {
         match head {
@@ -287,7 +309,13 @@ impl Reader {
     }
 
     #[cycle(expressions)]
-    fn end_tag(&mut self, scene: &Scene, arms: u8, enclosing: Enclosing, start: usize) -> Result<(), Refusal>
+    fn end_tag(
+        &mut self,
+        scene: &Scene,
+        arms: u8,
+        enclosing: Enclosing,
+        start: usize,
+    ) -> Result<(), Refusal>
         ensures { GoesOn (EndPartsRead (counts_in scene.now) (used enclosing.results) (tagcase_head arms) (tagcase_end_at (context_in scene.now) (expr_in scene.now) (end_in scene.now) arms (used enclosing.results) (used enclosing.names) (names_in scene.now) start self.old.at)) self.old self.new result }
     {
         let test = self.expr(scene)?;
@@ -299,7 +327,12 @@ impl Reader {
     }
 
     #[cycle(expressions)]
-    fn ends(&mut self, scene: &Scene, constituents: Members, enclosing: Enclosing) -> Result<(), Refusal>
+    fn ends(
+        &mut self,
+        scene: &Scene,
+        constituents: Members,
+        enclosing: Enclosing,
+    ) -> Result<(), Refusal>
         requires { length (names_in scene.now) < 96 }
         ensures { GoesOn (EndsRead (counts_in scene.now) (length (used enclosing.results)) (length (used constituents)) (ends_at (end_in scene.now) (used enclosing.results) (used enclosing.names) (used constituents) (names_in scene.now) self.old.at)) self.old self.new result }
     {

@@ -4,7 +4,6 @@ ghost use Rattle.language.specs.Sorts.{twins, has_twin};
 ghost use Rattle.verdict.specs.Modules.{counted_uses, shaped, row_at, rows_at};
 ghost use Rattle.module_check.specs.Reading.{Plain, UsesRead, RowsRead};
 
-use crate::lists::alike;
 use crate::reader::Reader;
 use crate::reader::judging::lead;
 use crate::tables::Tables;
@@ -12,38 +11,17 @@ use values::{Members, Refusal, Row, Types};
 use verdict::Shape;
 
 // Whether two rows are of one kind and use the same types.
-fn are_twins(first: Row, second: Row) -> bool
-    ensures { result ≡ twins first second }
+fn are_twins(first: &Row, second: &Row) -> bool
+    ensures { result ≡ twins first.now second.now }
 {
-    match first {
-        Row::Array(a) => match second {
-            Row::Array(b) => a == b,
-            _ => false,
-        },
-        Row::Record(a) => match second {
-            Row::Record(b) => alike(a, b),
-            _ => false,
-        },
-        Row::Union(a) => match second {
-            Row::Union(b) => alike(a, b),
-            _ => false,
-        },
-    }
+    first == second
 }
 
 // Whether the table has a twin of a row.
 fn is_twin(types: &Types, row: Row) -> bool
     ensures { result ≡ has_twin (rows_of types.now) row }
 {
-    for number in 2..62 {
-        let Some(earlier) = types.row(number) else {
-            return false;
-        };
-        if are_twins(earlier, row) {
-            return true;
-        }
-    }
-    false
+    types.as_slice().iter().any(|earlier| are_twins(earlier, &row))
 }
 
 impl Reader {
@@ -89,7 +67,12 @@ impl Reader {
     }
 
     // So many rows, behind those of the table.
-    pub(crate) fn rows(&mut self, bytes: &[u8], tables: &mut Tables, count: u8) -> Result<(), Refusal>
+    pub(crate) fn rows(
+        &mut self,
+        bytes: &[u8],
+        tables: &mut Tables,
+        count: u8,
+    ) -> Result<(), Refusal>
         ensures kept { self.new.nodes ≡ self.old.nodes }
         ensures functions { tables.new.functions ≡ tables.old.functions }
         ensures reads { RowsRead (rows_at count bytes.now (rows_of tables.old.types) self.old.at) (rows_of tables.new.types) self.new.at result }
