@@ -1,9 +1,10 @@
 -- Loops over members, arms and ends: what has been read so far.
-use Rattle.std.proofs.Common.{◌≡◌, ℕ, zero, suc, ◌+◌, ◌<◌, ◌≤◌, Bool, true, false, cond, ◌&&◌, eqb, List, [], ◌∷◌, ◌++◌, length, get_or, take, set, replicate, Some, None, Ok, Option, sym, refl, ap, ◌∙◌, ap₂, arith}
+use Rattle.std.proofs.Common.{◌≡◌, ℕ, zero, suc, ◌+◌, ◌<◌, ◌≤◌, Bool, true, false, cond, ◌&&◌, eqb, List, [], ◌∷◌, ◌++◌, length, get_or, take, set, replicate, Some, None, Ok, Option, is_some, ltb, sym, refl, ap, ◌∙◌, ap₂, arith}
 use lib.ListN.{length-replicate}
 use Rattle.std.proofs.lemmas.List.{append_assoc, append-nil, length_push, take_more_set}
 use Rattle.std.proofs.lemmas.Bool.Decides.{nat_tests}
-use Rattle.std.proofs.lemmas.Bool.{ne_eqb}
+use Rattle.std.proofs.lemmas.Bool.{ne_eqb, lt-ltb, false≢true}
+use Rattle.std.specs.Option.{unwrap_or}
 use Rattle.values.specs.declared.refusal.Refusal.{Refusal}
 use Rattle.values.specs.declared.members.Members.{Members}
 use Rattle.values.specs.declared.refusal.Refusal.TheVariants.{Clash}
@@ -117,6 +118,12 @@ module _ (counts : List ℕ) (ex : Reads) (Γ : List ℕ) (n start : ℕ) (befor
 abbrev pub shared : Option Members → List ℕ
 shared (Some m) = used m
 shared None = []
+
+pub first_shared : (first : Option Members) (m : Members) (i : ℕ) → is_some first ≡ ltb 0 i → used (unwrap_or first m) ≡ cond (eqb i 0) (used m) (shared first)
+first_shared (Some f) m zero h = absurd (false≢true (sym h))
+first_shared (Some f) m (suc i) h = ap (λ b. cond b (used m) (used f)) (sym (ne_eqb (suc i) 0 (λ z. omega arith)))
+first_shared None m zero h = refl
+first_shared None m (suc i) h = absurd (false≢true (h ∙ lt-ltb 0 (suc i) (omega arith)))
 
 -- The arms of a tagcase; ts are the types of the first, once there is one.
 abbrev pub Arming : List ℕ → Reads → List ℕ → List ℕ → (start : ℕ) → List Node → List ℕ → (i : ℕ) → Bool → List Node → ℕ → Type 0

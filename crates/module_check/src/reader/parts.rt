@@ -187,9 +187,11 @@ impl Reader {
             agree = agree & alike(shared, types);
             first = Some(shared);
         }
-        match first {
-            Some(types) if agree => Ok(types),
-            _ => Err(Refusal::Clash(start)),
+        let Some(types) = first else { unreachable() };
+        if agree {
+            Ok(types)
+        } else {
+            Err(Refusal::Clash(start))
         }
     }
 
@@ -234,7 +236,8 @@ impl Reader {
     ) -> Result<(), Refusal>
         ensures { GoesOn (AskedRead (counts_in scene.now) (used types) start (expr_in scene.now (names_in scene.now) self.old.at)) self.old self.new result }
     {
-        if alike(types, self.expr(scene)?) {
+        let found = self.expr(scene)?;
+        if alike(types, found) {
             Ok(())
         } else {
             Err(Refusal::Clash(start))

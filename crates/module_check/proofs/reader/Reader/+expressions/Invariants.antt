@@ -2,7 +2,7 @@ use Rattle.std.proofs.Common.{◌≡◌, ◌+◌, ◌-◌, ◌*◌, ◌≤◌, l
 use Rattle.std.specs.Prelude.{nat_lt}
 use Rattle.values.specs.Rows.{used}
 use Rattle.module_check.specs.Views.{counts_in, names_in, expr_in, end_in}
-use Rattle.module_check.proofs.Loops.{shared, Listing, Arming, Ending}
+use Rattle.module_check.proofs.Loops.{shared, first_shared, Listing, Arming, Ending}
 use Rattle.module_check.proofs.reader.Reader.+expressions.Given as goal
 
 -- The bytes that are left, and behind them how far a call is from reading one.
@@ -69,9 +69,9 @@ invariant-list-loop-i l =
 abbrev pub invariant-arms-loop-constituent : goal.invariant-arms-loop-constituent
 invariant-arms-loop-constituent l =
     (l.initial.self.at ≤ l.self.at) × (is_some l.first ≡ nat_lt 0 l.constituent-index)
-    × Arming (counts_in l.scene) (expr_in l.scene) (used l.constituents) (names_in l.scene) l.initial.self.at (vec_items l.initial.self.nodes) (shared l.first) l.constituent-index l.agree (vec_items l.self.nodes) l.self.at
+    × Arming (counts_in l.scene) (expr_in l.scene) (used l.fn.constituents) (names_in l.scene) l.initial.self.at (vec_items l.initial.self.nodes) (shared l.first) l.constituent-index l.agree (vec_items l.self.nodes) l.self.at
 
 abbrev pub invariant-ends-loop-constituent : goal.invariant-ends-loop-constituent
 invariant-ends-loop-constituent l =
     (l.initial.self.at ≤ l.self.at)
-    × Ending (counts_in l.scene) (end_in l.scene) (used l.enclosing.results) (used l.enclosing.names) (used l.constituents) (names_in l.scene) l.initial.self.at (vec_items l.initial.self.nodes) l.constituent-index (vec_items l.self.nodes) l.self.at
+    × Ending (counts_in l.scene) (end_in l.scene) (used l.enclosing.results) (used l.enclosing.names) (used l.fn.constituents) (names_in l.scene) l.initial.self.at (vec_items l.initial.self.nodes) l.constituent-index (vec_items l.self.nodes) l.self.at
