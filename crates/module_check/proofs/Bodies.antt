@@ -1,6 +1,6 @@
 -- The body of a record as so many bytes.
-use Rattle.std.proofs.Common.{◌≡◌, ℕ, zero, suc, ◌+◌, ◌-◌, ◌<◌, ◌≤◌, Ok, List, [], ◌∷◌, length, get_or, take, drop, sym, refl, ap, ◌∙◌, subst, arith, drop-cons}
-use Rattle.verdict.specs.Outcomes.{accepted, whole, body}
+use Rattle.std.proofs.Common.{◌≡◌, ℕ, zero, suc, ◌+◌, ◌-◌, ◌<◌, ◌≤◌, Ok, List, ◌∷◌, length, get_or, take, drop, refl, ap, ◌∙◌, subst, arith, drop-cons}
+use Rattle.verdict.specs.Outcomes.{accepted, whole}
 use Rattle.verdict.proofs.Spans.{whole_found}
 use Rattle.module_check.specs.Reading.{body_from, BodyRead}
 

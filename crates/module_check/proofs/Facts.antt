@@ -7,7 +7,8 @@ use Rattle.std.proofs.lemmas.Option.{slice_get-get_or, slice_get_past, slice_get
 use Rattle.std.proofs.lemmas.Bool.Decides.{nat_tests}
 use Rattle.language.specs.Sorts.{same}
 use Rattle.verdict.specs.Judging.{every}
-use Rattle.verdict.specs.Outcomes.{Out, accepted, after, each}
+use Rattle.verdict.specs.Outcomes.{Out, accepted, refused, after, judged, each}
+use Rattle.verdict.proofs.Spans.{not_accepted}
 use Rattle.values.specs.declared.refusal.Refusal.{Refusal}
 use Rattle.values.specs.declared.members.Members.{Members}
 use Rattle.values.specs.Rows.{used}
@@ -100,6 +101,19 @@ declines_after o f e (inr h) = inr (ap (λ z. after z f) h)
 pub going_declines : {A B : Type 0} (f : A → ℕ → Out B) (xs : List A) (start i place : ℕ) (d : A) (done : List B) (e : Refusal) → i < length xs → Declines (f (get_or xs i d) place) e → Going f xs start i done place → Declines (each f xs start) e
 going_declines f xs start i place d done e lt (inl m) g = inl m
 going_declines f xs start i place d done e lt (inr h) g = inr (going_fails f xs start i place d done e lt h g)
+
+-- A test that fails is the same refusal, whatever would be made where it passes.
+pub judged_else : {A B D : Type 0} (o : Out A) (v : Refusal) (test : A → Bool) (f : A → B) (g : A → D) (e : Refusal) → Declines (after o (λ a q. judged v (test a) (f a) q)) e → Declines (after o (λ a q. judged v (test a) (g a) q)) e
+judged_else o v test f g e (inl m) = inl m
+judged_else {A} {B} {D} o v test f g e (inr h) = inr (go o h)
+  where
+    tested : (b : Bool) (x : B) (y : D) (q : ℕ) → judged v b x q ≡ refused e → judged v b y q ≡ refused e
+    tested true x y q h = absurd (not_accepted e x q (sym h))
+    tested false x y q h = ap refused (let i : v ≡ e = cc in i)
+
+    go : (o : Out A) → after o (λ a q. judged v (test a) (f a) q) ≡ refused e → after o (λ a q. judged v (test a) (g a) q) ≡ refused e
+    go (accepted a q) h = tested (test a) (f a) (g a) q h
+    go (refused w) h = ap refused (let i : w ≡ e = cc in i)
 
 -- Places that are filled up to a count are members, and what was read.
 pub filled : (f : Unit {0} → ℕ → Out ℕ) (n start i place : ℕ) (numbers : List ℕ) (m : Members) → n ≤ i → i ≤ n → length numbers ≡ 8 → drop i numbers ≡ replicate (8 - i) 0 → Going f (replicate n tt) start i (take i numbers) place → m.numbers ≡ numbers → m.count ≡ n → (each f (replicate n tt) start ≡ accepted (used m) place) × (m ≡ members_of (used m))

@@ -1,5 +1,5 @@
 -- The steps of reading: what a function has read where its parts were read.
-use Rattle.std.proofs.Common.{◌≡◌, ℕ, zero, suc, ◌+◌, ◌-◌, ◌<◌, Bool, true, false, cond, eqb, leb, List, [], ◌∷◌, ◌++◌, length, get_or, set, Some, Ok, Err, Result, inl, inr, sym, refl, ap, ◌∙◌, subst, ap₂, sub-one, arith, length-append}
+use Rattle.std.proofs.Common.{◌≡◌, ℕ, zero, suc, ◌+◌, ◌-◌, ◌<◌, Bool, true, false, cond, eqb, leb, List, [], ◌∷◌, ◌++◌, length, get_or, set, Some, Ok, Err, Result, sym, refl, ap, ◌∙◌, subst, ap₂, sub-one, arith, length-append}
 use Rattle.std.specs.List.{slice_get}
 use Rattle.std.proofs.lemmas.List.{append_assoc, append-nil, set_at}
 use Rattle.std.proofs.lemmas.Bool.{le-leb, true≢false}
@@ -27,15 +27,15 @@ use Rattle.verdict.specs.declared.kinds.Sort.{Sort}
 use Rattle.verdict.specs.declared.kinds.Sort.TheVariants as sort
 use Rattle.verdict.specs.declared.kinds.Head.{Head}
 use Rattle.verdict.specs.declared.kinds.Head.TheVariants as head
-use Rattle.verdict.specs.Outcomes.{Out, accepted, refused, after, judged, found, first_at, lookup}
+use Rattle.verdict.specs.Outcomes.{Out, accepted, refused, after, found, first_at, lookup}
 use Rattle.verdict.specs.Bodies.{sorts, end_sorts, kind_at, head_at}
 use Rattle.verdict.specs.Judging.{Typed, typed, judge_one, judge_two, bound, arms_of, agree, first_types, trees, ends, parameters_in, results_in, single, of_one, matches}
 use Rattle.verdict.specs.Expressions.{leaf_tree, one_tree, two_tree, Reads, Ends, one_at, two_at, if_at, let_at, arms_at, tagcase_at, for_at, forall_at, parts_at, iter_at, if_end_at, let_end_at, ends_at, tagcase_end_at, end_parts_at, done_at, goes_on, record_at, end_record_at, expr, end}
-use Rattle.verdict.proofs.Spans.{not_accepted, after_inv, accepted_inv, judged_inv, found_inv, not_none}
+use Rattle.verdict.proofs.Spans.{after_inv, accepted_inv, judged_inv, found_inv, not_none}
 use Rattle.verdict.proofs.Sames.{same_refl, matches_inv, parameters_inv}
 use Rattle.verdict.proofs.Sound.{arms_inv, count_trees, count_these}
 use Rattle.module_check.specs.Reading.{Declines, TypesRead, ExprRead, PartsRead, ArmsRead, AskedRead, EndRead, EndPartsRead, EndsRead}
-use Rattle.module_check.proofs.Facts.{declines_after}
+use Rattle.module_check.proofs.Facts.{declines_after, judged_else}
 
 -- Nodes that grow.
 pub grown₂ : (l x y : List Node) {m n : List Node} → m ≡ l ++ x → n ≡ m ++ y → n ≡ l ++ (x ++ y)
@@ -192,18 +192,6 @@ let_read counts ex Γ p q d b us Δ m r s n0 n1 n2 x y z i j l =
 pub let_body : (counts : List ℕ) (ex : Reads) (Γ : List ℕ) (p q : ℕ) (d : Expr) (us Δ : List ℕ) (r s : ℕ) (n0 n1 n2 : List Node) (result : Result Members Refusal) → ex Γ q ≡ accepted (typed d us) r → bound Γ us p r ≡ accepted Δ r → ExprRead counts (ex Δ r) n1 n2 s result → n1 ≡ n0 ++ flat counts d → PartsRead counts head.Let (let_at ex Γ p q) n0 n2 s result
 let_body counts ex Γ p q d us Δ r s n0 n1 n2 (Ok m) x y b i = let_read counts ex Γ p q d b.0 us Δ m r s n0 n1 n2 x y b.1 i b.2 b.3
 let_body counts ex Γ p q d us Δ r s n0 n1 n2 (Err w) x y b i = rw (x, y) (declines_after (ex Δ r) _ w b)
-
--- A test that fails is the same refusal, whatever would be made where it passes.
-pub judged_else : {A B D : Type 0} (o : Out A) (v : Refusal) (test : A → Bool) (f : A → B) (g : A → D) (e : Refusal) → Declines (after o (λ a q. judged v (test a) (f a) q)) e → Declines (after o (λ a q. judged v (test a) (g a) q)) e
-judged_else o v test f g e (inl m) = inl m
-judged_else {A} {B} {D} o v test f g e (inr h) = inr (go o h)
-  where
-    tested : (b : Bool) (x : B) (y : D) (q : ℕ) → judged v b x q ≡ refused e → judged v b y q ≡ refused e
-    tested true x y q h = absurd (not_accepted e x q (sym h))
-    tested false x y q h = ap refused (let i : v ≡ e = cc in i)
-    go : (o : Out A) → after o (λ a q. judged v (test a) (f a) q) ≡ refused e → after o (λ a q. judged v (test a) (g a) q) ≡ refused e
-    go (accepted a q) h = tested (test a) (f a) (g a) q h
-    go (refused w) h = ap refused (let i : w ≡ e = cc in i)
 
 pub tagcase_read : (counts : List ℕ) (C : Context) (ex : Reads) (Γ : List ℕ) (p q n : ℕ) (e : Expr) (us cs : List ℕ) (xs : List Typed) (m : Members) (r s : ℕ) (n0 n1 n2 : List Node) → ex Γ q ≡ accepted (typed e us) r → arms_of C n us p r ≡ accepted cs r → length Γ < 96 → arms_at ex cs Γ r ≡ accepted xs s → agree (first_types xs) xs ≡ true → first_types xs ≡ used m → n1 ≡ n0 ++ flat counts e → n2 ≡ n1 ++ flat_all counts (trees xs) → length xs ≡ length cs → arity_first counts (trees xs) ≡ length (used m) → PartsRead counts (head.Tagcase n) (tagcase_at C ex n Γ p q) n0 n2 s (Ok m)
 unfolding flat arity

@@ -1,5 +1,5 @@
 -- The tests on lists of types and rows, as the library computes them.
-use Rattle.std.proofs.Common.{◌≡◌, ℕ, Bool, ◌&&◌, ◌||◌, eqb, List, [], ◌∷◌, refl, ap, ◌∙◌, ap₂}
+use Rattle.std.proofs.Common.{◌≡◌, ℕ, ◌&&◌, ◌||◌, eqb, List, [], ◌∷◌, refl, ap}
 use Rattle.std.specs.List.{list_all, list_any}
 use Rattle.values.specs.declared.row.Row.{Row}
 use Rattle.language.specs.Sorts.{twins, has_twin}

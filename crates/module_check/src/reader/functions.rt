@@ -1,5 +1,6 @@
 ghost use Rattle.std.specs.Prelude.{◌≡◌, ◌+◌, ◌<◌, ◌≤◌, [], length};
 ghost use Rattle.values.specs.Tables.{rows_of};
+ghost use Rattle.verdict.specs.Bodies.{few};
 ghost use Rattle.verdict.specs.Modules.{function_at, functions_at, module_at};
 ghost use Rattle.module_check.specs.Views.{context_of, counts_of};
 ghost use Rattle.module_check.specs.Reading.{FunctionRead, FunctionsRead, ModuleRead};
@@ -10,6 +11,13 @@ use crate::scope::Scope;
 use crate::tables::Tables;
 use language::Function;
 use values::Refusal;
+
+// Whether a number is one to eight.
+fn is_few(count: u8) -> bool
+    ensures { result ≡ few count }
+{
+    (1..=8).contains(&count)
+}
 
 impl Reader {
     // The next function.
@@ -22,7 +30,7 @@ impl Reader {
             return Err(Refusal::Strange(start));
         }
         let [parameters, results] = self.body::<2>(bytes)?;
-        if !((1..=8).contains(&parameters) && (1..=8).contains(&results)) {
+        if !is_few(parameters) || !is_few(results) {
             return Err(Refusal::Strange(start));
         }
         let parameters = self.uses(bytes, parameters, tables.types.len())?;

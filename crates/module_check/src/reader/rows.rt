@@ -21,7 +21,10 @@ fn are_twins(first: &Row, second: &Row) -> bool
 fn is_twin(types: &Types, row: Row) -> bool
     ensures { result ≡ has_twin (rows_of types.now) row }
 {
-    types.as_slice().iter().any(|earlier| are_twins(earlier, &row))
+    types
+        .as_slice()
+        .iter()
+        .any(|earlier| are_twins(earlier, &row))
 }
 
 impl Reader {
@@ -80,10 +83,7 @@ impl Reader {
         for _ in 0..count {
             let row = self.row(bytes, &tables.types)?;
             // The row fits: only memory can be wanting.
-            match tables.types.push(row) {
-                Ok(_) => {}
-                Err(_) => return Err(Refusal::Memory),
-            }
+            tables.types.push(row).map_err(|_| Refusal::Memory)?;
         }
         Ok(())
     }

@@ -1,4 +1,4 @@
-use Rattle.std.proofs.Common.{◌≡◌, true, ◌+◌, ◌-◌, ◌<◌, ◌≤◌, ◌&&◌, eqb, [], ◌∷◌, ◌++◌, length, get_or, replicate, Ok, Err, vec_items, sym, refl, inr, ap, ◌∙◌, subst, arith, length-set, length-take, rules}
+use Rattle.std.proofs.Common.{◌≡◌, true, ◌+◌, ◌-◌, ◌<◌, ◌≤◌, ◌&&◌, [], ◌∷◌, ◌++◌, length, get_or, replicate, Ok, vec_items, sym, refl, inr, ap, ◌∙◌, subst, arith, length-set, rules}
 use Rattle.std.proofs.lemmas.Result.{err_from_is_err_and}
 use Rattle.std.proofs.lemmas.Bool.{lt-ltb}
 use Rattle.values.specs.Rows.{used}
@@ -11,7 +11,6 @@ use Rattle.verdict.proofs.Sames.{same_true}
 use Rattle.verdict.proofs.Members.{members_few}
 use Rattle.module_check.specs.Views.{context_in, counts_in, names_in, expr_in, end_in}
 use Rattle.module_check.specs.Reading.{Declines, PartsRead, EndRead, EndPartsRead}
-use Rattle.module_check.proofs.Facts.{nth_is}
 use Rattle.module_check.proofs.Steps.{closed, inside, expr_unread, expr_deep, expr_headless, expr_parts, end_unread, end_deep, end_headless, end_parts, end_done, leaf_read, one_judged, two_judged, if_read, let_body, tagcase_arms, for_read, forall_read, iter_asked, if_end_read, let_end_body, tagcase_ends, done_asked}
 use Rattle.module_check.proofs.Loops.{shared, first_shared, Listing, Arming, listing_none, listing_more, listing_fails, listing_clash, listing_done, arming_none, arming_more, arming_fails, arming_clash, arming_done, ending_none, ending_more, ending_fails, ending_done}
 use Rattle.module_check.proofs.reader.Reader.+expressions.Goals as goal

@@ -2,7 +2,7 @@ use Rattle.std.proofs.Common.{◌≡◌, ◌+◌, ◌-◌, ◌*◌, ◌≤◌, l
 use Rattle.std.specs.Prelude.{nat_lt}
 use Rattle.values.specs.Rows.{used}
 use Rattle.module_check.specs.Views.{counts_in, names_in, expr_in, end_in}
-use Rattle.module_check.proofs.Loops.{shared, first_shared, Listing, Arming, Ending}
+use Rattle.module_check.proofs.Loops.{shared, Listing, Arming, Ending}
 use Rattle.module_check.proofs.reader.Reader.+expressions.Given as goal
 
 -- The bytes that are left, and behind them how far a call is from reading one.
