@@ -1,5 +1,5 @@
 -- The tests on lists of types and rows, as the library computes them.
-use Rattle.std.proofs.Common.{◌≡◌, ℕ, ◌&&◌, ◌||◌, eqb, List, [], ◌∷◌, refl, ap}
+use Rattle.std.proofs.Common.{◌≡◌, ℕ, Bool, ◌&&◌, ◌||◌, eqb, List, [], ◌∷◌, refl, ap, ap₂}
 use Rattle.std.specs.List.{list_all, list_any}
 use Rattle.values.specs.declared.row.Row.{Row}
 use Rattle.language.specs.Sorts.{twins, has_twin}
@@ -9,6 +9,6 @@ pub all_every : (u : ℕ) (xs : List ℕ) → list_all (λ t. eqb t u) xs ≡ ev
 all_every u [] = refl
 all_every u (x ∷ xs) = ap (λ b. eqb x u && b) (all_every u xs)
 
-pub any_twin : (row : Row) (rows : List Row) → list_any (λ q. twins q row) rows ≡ has_twin rows row
-any_twin row [] = refl
-any_twin row (q ∷ rows) = ap (λ b. twins q row || b) (any_twin row rows)
+pub any_twin : (row : Row) (equals : Row → Bool) → ((q : Row) → equals q ≡ twins q row) → (rows : List Row) → list_any equals rows ≡ has_twin rows row
+any_twin row equals h [] = refl
+any_twin row equals h (q ∷ rows) = ap₂ ◌||◌ (h q) (any_twin row equals h rows)

@@ -1,6 +1,6 @@
 ghost use Rattle.std.specs.Prelude.{◌≡◌, ◌+◌, ◌<◌, ◌≤◌, length};
 ghost use Rattle.values.specs.Tables.{rows_of};
-ghost use Rattle.language.specs.Sorts.{twins, has_twin};
+ghost use Rattle.language.specs.Sorts.{has_twin};
 ghost use Rattle.verdict.specs.Modules.{counted_uses, shaped, row_at, rows_at};
 ghost use Rattle.module_check.specs.Reading.{Plain, UsesRead, RowsRead};
 
@@ -10,21 +10,11 @@ use crate::tables::Tables;
 use values::{Members, Refusal, Row, Types};
 use verdict::Shape;
 
-// Whether two rows are of one kind and use the same types.
-fn are_twins(first: &Row, second: &Row) -> bool
-    ensures { result ≡ twins first.now second.now }
-{
-    first == second
-}
-
 // Whether the table has a twin of a row.
 fn is_twin(types: &Types, row: Row) -> bool
     ensures { result ≡ has_twin (rows_of types.now) row }
 {
-    types
-        .as_slice()
-        .iter()
-        .any(|earlier| are_twins(earlier, &row))
+    types.as_slice().contains(&row)
 }
 
 impl Reader {

@@ -1,13 +1,10 @@
-use Rattle.std.proofs.Common.{◌∙◌, rules}
-use borrow.Author.Tests.{tests}
-use Rattle.std.proofs.lemmas.Iterator.{YieldsList-from_slice}
-use Rattle.std.proofs.lemmas.Iterator.Search.{any_from_yields_List}
+use Rattle.std.proofs.Common.{ap, ◌∙◌, arith, rules}
+use Rattle.std.proofs.lemmas.Grind.{common_steps}
+use Rattle.std.specs.List.{list_any}
 use Rattle.values.specs.Tables.{rows_of}
-use Rattle.language.specs.Sorts.{twins}
 use Rattle.module_check.proofs.Tests.{any_twin}
 use Rattle.module_check.proofs.reader.rows.is_twin.Goals as goal
 
 pub returns : goal.returns
 returns c =
-    any_from_yields_List (λ q. twins q c.args.row) _ _ c.any.result c.any.ensures.ran (YieldsList-from_slice (rows_of c.args.types.now) cc) (λ x b q k. search (rules, tests))
-    ∙ any_twin c.args.row (rows_of c.args.types.now)
+    c.contains.ensures.value ∙ (ap (list_any _) c.as_slice.ensures ∙ any_twin c.args.row _ (λ q. search rules) (rows_of c.args.types.now))
