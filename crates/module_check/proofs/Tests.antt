@@ -1,9 +1,17 @@
 -- The tests on lists of types and rows, as the library computes them.
 use Rattle.std.proofs.Common.{◌≡◌, ℕ, Bool, ◌&&◌, ◌||◌, eqb, List, [], ◌∷◌, refl, ap, ap₂}
+use Rattle.std.specs.Prelude.{nat_eq}
+use Rattle.std.specs.Cmp.Lexicographic.{pointwise}
 use Rattle.std.specs.List.{list_all, list_any}
 use Rattle.values.specs.declared.row.Row.{Row}
-use Rattle.language.specs.Sorts.{twins, has_twin}
+use Rattle.language.specs.Sorts.{same, twins, has_twin}
 use Rattle.verdict.specs.Judging.{every}
+
+pub pointwise_same : (xs ys : List ℕ) → pointwise nat_eq xs ys ≡ same xs ys
+pointwise_same [] [] = refl
+pointwise_same [] (y ∷ ys) = refl
+pointwise_same (x ∷ xs) [] = refl
+pointwise_same (x ∷ xs) (y ∷ ys) = ap (λ b. eqb x y && b) (pointwise_same xs ys)
 
 pub all_every : (u : ℕ) (xs : List ℕ) → list_all (λ t. eqb t u) xs ≡ every u xs
 all_every u [] = refl

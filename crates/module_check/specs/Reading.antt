@@ -34,6 +34,11 @@ abbrev pub TypesRead : Out (List ℕ) → ℕ → Result Members Refusal → Typ
 TypesRead o next (Ok m) = o ≡ accepted (used m) next
 TypesRead o next (Err e) = Declines o e
 
+-- What is judged where the last part ends, wherever that is.
+abbrev pub Judged : (ℕ → Out (List ℕ)) → Result Members Refusal → Type 0
+Judged o (Ok m) = (next : ℕ) → o next ≡ accepted (used m) next
+Judged o (Err e) = (next : ℕ) → Declines (o next) e
+
 -- Uses fill members whose other places are 0.
 abbrev pub UsesRead : Out (List ℕ) → ℕ → Result Members Refusal → Type 0
 UsesRead o next (Ok m) = (o ≡ accepted (used m) next) × (m ≡ members_of (used m))

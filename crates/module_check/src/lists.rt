@@ -1,6 +1,5 @@
 ghost use Rattle.std.specs.Prelude.{◌≡◌, ◌+◌, [], ◌∷◌, nat_lt};
 ghost use Rattle.values.specs.Rows.{used};
-ghost use Rattle.language.specs.Sorts.{same};
 ghost use Rattle.verdict.specs.Judging.{every};
 
 use values::Members;
@@ -10,13 +9,6 @@ pub(crate) fn single(number: u8) -> Members
     ensures { used result ≡ number ∷ [] }
 {
     Members::new([number, 0, 0, 0, 0, 0, 0, 0], 1).unwrap()
-}
-
-// Whether two lists of types are the same.
-pub(crate) fn alike(a: Members, b: Members) -> bool
-    ensures { result ≡ same (used a) (used b) }
-{
-    a == b
 }
 
 // Whether each type is this one.

@@ -7,9 +7,9 @@ ghost use Rattle.language.specs.declared.node.One.TheVariants.{Unary as unary, C
 ghost use Rattle.language.specs.declared.node.Two.TheVariants.{Binary as binary, Array as array_of, Element as element_at};
 ghost use Rattle.verdict.specs.Judging.{single as the_one, judge_one, judge_two, bound, arms_of};
 ghost use Rattle.module_check.specs.Views.{names, context_of, kind_of, end_kind_of};
-ghost use Rattle.module_check.specs.Reading.{Plain, TypesRead, Extended, UsesRead};
+ghost use Rattle.module_check.specs.Reading.{Judged, Plain, TypesRead, Extended, UsesRead};
 
-use crate::lists::{alike, all_are, single};
+use crate::lists::{all_are, single};
 use crate::reader::Reader;
 use crate::reader::heads::{element_of, fields_of, has_fault, tags_of};
 use crate::scope::Scope;
@@ -33,7 +33,7 @@ fn only(types: Members) -> Option<u8>
 pub(crate) fn is_one(number: u8, types: Members) -> bool
     ensures { result ≡ same (number ∷ []) (used types) }
 {
-    alike(single(number), types)
+    single(number) == types
 }
 
 // Whether there is one value.
@@ -141,14 +141,13 @@ pub(crate) fn end_noted(head: Head, results: Members) -> Kind
 }
 
 impl Reader {
-    fn unary(
-        &self,
+    fn unary_try(
         tables: &Tables,
         operation: Unary,
         part: Members,
         start: usize,
     ) -> Result<Members, Refusal>
-        ensures { TypesRead (judge_one (context_of tables.now) (unary operation) (used part) start self.now.at) self.now.at result }
+        ensures { Judged (judge_one (context_of tables.now) (unary operation) (used part) start) result }
     {
         let number = only(part).ok_or(Refusal::Clash(start))?;
         if takes_operand(&tables.types, operation, number) {
@@ -172,7 +171,7 @@ impl Reader {
             return Err(Refusal::Clash(start));
         }
         let callee = tables.functions[at];
-        if alike(callee.parameters, part) {
+        if callee.parameters == part {
             Ok(callee.results)
         } else {
             Err(Refusal::Clash(start))
@@ -189,21 +188,20 @@ impl Reader {
         ensures { TypesRead (judge_one (context_of tables.now) (record_of number) (used part) start self.now.at) self.now.at result }
     {
         let fields = fields_of(&tables.types, number).ok_or(Refusal::Clash(start))?;
-        if alike(fields, part) {
+        if fields == part {
             Ok(single(number))
         } else {
             Err(Refusal::Clash(start))
         }
     }
 
-    fn field(
-        &self,
+    fn field_try(
         tables: &Tables,
         field: u8,
         part: Members,
         start: usize,
     ) -> Result<Members, Refusal>
-        ensures { TypesRead (judge_one (context_of tables.now) (field_of field) (used part) start self.now.at) self.now.at result }
+        ensures { Judged (judge_one (context_of tables.now) (field_of field) (used part) start) result }
     {
         let number = only(part).ok_or(Refusal::Clash(start))?;
         let fields = fields_of(&tables.types, number).ok_or(Refusal::Clash(start))?;
@@ -241,10 +239,10 @@ impl Reader {
         ensures { TypesRead (judge_one (context_of tables.now) one (used part) start self.now.at) self.now.at result }
     {
         match one {
-            One::Unary(operation) => self.unary(tables, operation, part, start),
+            One::Unary(operation) => Reader::unary_try(tables, operation, part, start),
             One::Call(function) => self.call(tables, function, part, start),
             One::Record(number) => self.record(tables, number, part, start),
-            One::Field(field) => self.field(tables, field, part, start),
+            One::Field(field) => Reader::field_try(tables, field, part, start),
             One::Union(number, tag) => self.union(tables, number, tag, part, start),
         }
     }

@@ -1,4 +1,4 @@
-ghost use Rattle.std.specs.Prelude.{◌≡◌, ◌+◌, ◌-◌, ◌<◌, ◌≤◌, [], ◌∷◌, ◌++◌, length, if◌then◌else◌, vec_len, slice_index, slice_set};
+ghost use Rattle.std.specs.Prelude.{◌≡◌, ◌+◌, ◌-◌, ◌<◌, ◌≤◌, [], ◌∷◌, ◌++◌, length, vec_len, slice_index, slice_set};
 ghost use Rattle.values.specs.Rows.{used};
 ghost use Rattle.verdict.specs.declared.kinds.Head.TheVariants.{One as one_head, Two as two_head, List as list_head, If as if_head, Let as let_head, Tagcase as tagcase_head, For as for_head, Forall as forall_head};
 ghost use Rattle.verdict.specs.Expressions.{one_at, two_at, list_at, if_at, let_at, tagcase_at, arms_at, for_at, forall_at, parts_at, if_end_at, let_end_at, tagcase_end_at, ends_at, end_parts_at, goes_on};
@@ -6,7 +6,7 @@ ghost use Rattle.module_check.specs.Views.{context_in, counts_in, names_in, expr
 ghost use Rattle.module_check.specs.Reading.{Fit, Opened, GoesOn, ExprRead, PartsRead, ArmsRead, AskedRead, EndRead, EndPartsRead, EndsRead};
 
 use crate::enclosing::Enclosing;
-use crate::lists::{alike, single};
+use crate::lists::single;
 use crate::reader::Reader;
 use crate::reader::judging::{end_noted, is_one, is_single, lead, merge_type, noted};
 use crate::scene::Scene;
@@ -19,13 +19,6 @@ fn is_end(sort: Sort) -> bool
     ensures { result ≡ goes_on sort }
 {
     matches!(sort, Sort::If | Sort::Let | Sort::Tagcase | Sort::Iter)
-}
-
-// The one or the other.
-fn chosen(one: bool, first: Members, second: Members) -> Members
-    ensures { result ≡ (if one then first else second) }
-{
-    if one { first } else { second }
 }
 
 impl Reader {
@@ -120,7 +113,7 @@ impl Reader {
         let mut singles = true;
         for i in 0..members {
             let part = self.expr(scene)?;
-            singles = singles & is_single(part);
+            singles &= is_single(part);
             numbers[i as usize] = lead(part);
         }
         if !singles {
@@ -139,7 +132,7 @@ impl Reader {
         let test = self.expr(scene)?;
         let taken = self.expr(scene)?;
         let other = self.expr(scene)?;
-        if is_one(0, test) && alike(taken, other) {
+        if is_one(0, test) && taken == other {
             Ok(taken)
         } else {
             Err(Refusal::Clash(start))
@@ -184,7 +177,7 @@ impl Reader {
             let scope = &scene.scope.with(*constituent);
             let types = self.expr(&Scene { scope, ..*scene })?;
             let shared = first.unwrap_or(types);
-            agree = agree & alike(shared, types);
+            agree &= shared == types;
             first = Some(shared);
         }
         let Some(types) = first else { unreachable() };
@@ -237,7 +230,7 @@ impl Reader {
         ensures { GoesOn (AskedRead (counts_in scene.now) (used types) start (expr_in scene.now (names_in scene.now) self.old.at)) self.old self.new result }
     {
         let found = self.expr(scene)?;
-        if alike(types, found) {
+        if types == found {
             Ok(())
         } else {
             Err(Refusal::Clash(start))

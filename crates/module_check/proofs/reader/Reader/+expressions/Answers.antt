@@ -11,16 +11,17 @@ use Rattle.verdict.proofs.Sames.{same_true}
 use Rattle.verdict.proofs.Members.{members_few}
 use Rattle.module_check.specs.Views.{context_in, counts_in, names_in, expr_in, end_in}
 use Rattle.module_check.specs.Reading.{Declines, PartsRead, EndRead, EndPartsRead}
+use Rattle.module_check.proofs.Tests.{pointwise_same}
 use Rattle.module_check.proofs.Steps.{closed, inside, expr_unread, expr_deep, expr_headless, expr_parts, end_unread, end_deep, end_headless, end_parts, end_done, leaf_read, one_judged, two_judged, if_read, let_body, tagcase_arms, for_read, forall_read, iter_asked, if_end_read, let_end_body, tagcase_ends, done_asked}
 use Rattle.module_check.proofs.Loops.{shared, first_shared, Listing, Arming, listing_none, listing_more, listing_fails, listing_clash, listing_done, arming_none, arming_more, arming_fails, arming_clash, arming_done, ending_none, ending_more, ending_fails, ending_done}
 use Rattle.module_check.proofs.reader.Reader.+expressions.Goals as goal
 
-pub branch-returns-then-alike : goal.branch-returns-then-alike
-branch-returns-then-alike t c =
+pub branch-returns-then-eq : goal.branch-returns-then-eq
+branch-returns-then-eq t c =
     let X = c.in_ok-test.ensures in
     let Y = c.in_ok-taken.ensures in
     let Z = c.in_ok-other.ensures in
-    record { later = omega (arith, X.later, Y.later, Z.later); reads = if_read (counts_in c.args.scene.now) (expr_in c.args.scene.now) (names_in c.args.scene.now) c.args.start c.args.self.now.at X.reads.0 Y.reads.0 Z.reads.0 _ _ c.in_ok-taken.taken _ _ _ _ _ _ _ X.reads.1 Y.reads.1 Z.reads.1 (sym c.is_one.ensures ∙ c.if-is_one.true) (sym c.alike.ensures ∙ c.if-alike.true) X.reads.2 Y.reads.2 Z.reads.2 Y.reads.3 }
+    record { later = omega (arith, X.later, Y.later, Z.later); reads = if_read (counts_in c.args.scene.now) (expr_in c.args.scene.now) (names_in c.args.scene.now) c.args.start c.args.self.now.at X.reads.0 Y.reads.0 Z.reads.0 _ _ c.in_ok-taken.taken _ _ _ _ _ _ _ X.reads.1 Y.reads.1 Z.reads.1 (sym c.is_one.ensures ∙ c.if-is_one.true) (sym (c.eq.ensures ∙ pointwise_same (used c.in_ok-taken.taken) (used c.in_ok-other.other)) ∙ c.if-eq.true) X.reads.2 Y.reads.2 Z.reads.2 Y.reads.3 }
 
 pub cycle-returns : goal.cycle-returns
 cycle-returns t c =
@@ -230,10 +231,10 @@ end_parts-returns-in-Iter t c =
     let R = c.asked.ensures in
     record { later = R.later; reads = subst (λ h. EndPartsRead (counts_in c.args.scene.now) (used c.args.enclosing.results) h (end_parts_at (context_in c.args.scene.now) (expr_in c.args.scene.now) (end_in c.args.scene.now) h (used c.args.enclosing.results) (used c.args.enclosing.names) (names_in c.args.scene.now) c.args.start c.args.self.now.at) (vec_items c.args.self.now.nodes) (vec_items c.asked.new.self.nodes) c.asked.new.self.at c.asked.result) (sym c.in-Iter.is) (iter_asked (counts_in c.args.scene.now) (expr_in c.args.scene.now) (end_in c.args.scene.now) (used c.args.enclosing.results) (used c.args.enclosing.names) (names_in c.args.scene.now) c.args.start c.args.self.now.at _ _ _ c.asked.result R.reads) }
 
-pub asked-returns-then-alike : goal.asked-returns-then-alike
-asked-returns-then-alike t c =
+pub asked-returns-then-eq : goal.asked-returns-then-eq
+asked-returns-then-eq t c =
     let X = c.in_ok-found.ensures in
-    let e : used c.args.types ≡ used c.in_ok-found.found = same_true _ _ (sym c.alike.ensures ∙ c.if-alike.true) in
+    let e : used c.args.types ≡ used c.in_ok-found.found = same_true _ _ (sym (c.eq.ensures ∙ pointwise_same (used c.args.types) (used c.in_ok-found.found)) ∙ c.if-eq.true) in
     record { later = X.later; reads = (X.reads.0, X.reads.1 ∙ ap (λ z. accepted (typed X.reads.0 z) c.expr.new.self.at) (sym e), X.reads.2) }
 
 pub arms-loop-constituent-init : goal.arms-loop-constituent-init
@@ -247,7 +248,7 @@ arms-loop-constituent-preserved t c =
     let under = c.with.ensures ∙ ap (λ xs. (names_in c.args.scene.now) ++ get_or xs c.loop-constituent.constituent-index 0 ∷ []) S in
     let X = c.in_ok-types.ensures in
     let w = ap used c.unwrap_or-shared.ensures ∙ first_shared c.loop-constituent.first c.in_ok-types.types c.loop-constituent.constituent-index I.1 in
-    (omega (arith, I.0, X.later), sym (lt-ltb 0 (c.loop-constituent.constituent-index + 1) (omega arith)), arming_more (counts_in c.args.scene.now) (expr_in c.args.scene.now) (used c.args.constituents) (names_in c.args.scene.now) c.args.self.now.at (vec_items c.args.self.now.nodes) c.loop-constituent.constituent-index c.loop-constituent.agree _ _ _ c.loop-constituent.self.at _ X.reads.0 (shared c.loop-constituent.first) (used c.in_ok-types.types) (used c.unwrap_or-shared.result) I.2 l (ap (λ z. (expr_in c.args.scene.now) z c.loop-constituent.self.at) (sym under) ∙ X.reads.1) X.reads.2 X.reads.3 w (ap (λ b. c.loop-constituent.agree && b) c.alike-agree.ensures))
+    (omega (arith, I.0, X.later), sym (lt-ltb 0 (c.loop-constituent.constituent-index + 1) (omega arith)), arming_more (counts_in c.args.scene.now) (expr_in c.args.scene.now) (used c.args.constituents) (names_in c.args.scene.now) c.args.self.now.at (vec_items c.args.self.now.nodes) c.loop-constituent.constituent-index c.loop-constituent.agree _ _ _ c.loop-constituent.self.at _ X.reads.0 (shared c.loop-constituent.first) (used c.in_ok-types.types) (used c.unwrap_or-shared.result) I.2 l (ap (λ z. (expr_in c.args.scene.now) z c.loop-constituent.self.at) (sym under) ∙ X.reads.1) X.reads.2 X.reads.3 w (ap (λ b. c.loop-constituent.agree && b) (c.eq-agree.ensures ∙ pointwise_same (used c.unwrap_or-shared.result) (used c.in_ok-types.types))))
 
 pub arms-returns-in_err-types : goal.arms-returns-in_err-types
 arms-returns-in_err-types t c =
