@@ -1,5 +1,5 @@
 -- The steps of reading: what a function has read where its parts were read.
-use Rattle.std.proofs.Common.{◌≡◌, ℕ, zero, suc, ◌+◌, ◌-◌, ◌<◌, Bool, true, false, cond, eqb, leb, List, [], ◌∷◌, ◌++◌, length, get_or, set, Some, Ok, Err, Result, sym, refl, ap, ◌∙◌, subst, ap₂, sub-one, arith, length-append}
+use Rattle.std.proofs.Common.{◌≡◌, ℕ, zero, suc, ◌+◌, ◌-◌, ◌<◌, Bool, true, false, cond, ◌&&◌, eqb, leb, List, [], ◌∷◌, ◌++◌, length, get_or, set, Some, Ok, Err, Result, sym, refl, ap, ◌∙◌, subst, ap₂, sub-one, arith, length-append}
 use Rattle.std.specs.List.{slice_get}
 use Rattle.std.proofs.lemmas.List.{append_assoc, append-nil, set_at}
 use Rattle.std.proofs.lemmas.Bool.{le-leb, true≢false}
@@ -34,7 +34,7 @@ use Rattle.verdict.specs.Expressions.{leaf_tree, one_tree, two_tree, Reads, Ends
 use Rattle.verdict.proofs.Spans.{after_inv, accepted_inv, judged_inv, found_inv, not_none}
 use Rattle.verdict.proofs.Sames.{same_refl, matches_inv, parameters_inv}
 use Rattle.verdict.proofs.Sound.{arms_inv, count_trees, count_these}
-use Rattle.module_check.specs.Reading.{Declines, TypesRead, ExprRead, PartsRead, ArmsRead, AskedRead, EndRead, EndPartsRead, EndsRead}
+use Rattle.module_check.specs.Reading.{Declines, Judged, ExprRead, PartsRead, ArmsRead, AskedRead, EndRead, EndPartsRead, EndsRead}
 use Rattle.module_check.proofs.Facts.{declines_after, judged_else}
 
 -- Nodes that grow.
@@ -152,9 +152,9 @@ pub one_read : (C : Context) (ex : Reads) (Γ : List ℕ) (p q : ℕ) (o : One) 
 one_read C ex Γ p q o e us m r before behind x j n =
     (one_tree o e, flat (result_counts C.callees) e, rw (x, j), one_noted (result_counts C.callees) o e, n, one_arity C o e us p r (used m) r j)
 
-pub one_judged : (C : Context) (ex : Reads) (Γ : List ℕ) (p q : ℕ) (o : One) (e : Expr) (us : List ℕ) (r : ℕ) (before behind : List Node) (result : Result Members Refusal) → ex Γ q ≡ accepted (typed e us) r → TypesRead (judge_one C o us p r) r result → behind ≡ before ++ flat (result_counts C.callees) e → PartsRead (result_counts C.callees) (head.One o) (one_at C ex o Γ p q) before behind r result
-one_judged C ex Γ p q o e us r before behind (Ok m) x j n = one_read C ex Γ p q o e us m r before behind x j n
-one_judged C ex Γ p q o e us r before behind (Err w) x d n = rw x (declines_after (judge_one C o us p r) _ w d)
+pub one_judged : (C : Context) (ex : Reads) (Γ : List ℕ) (p q : ℕ) (o : One) (e : Expr) (us : List ℕ) (r : ℕ) (before behind : List Node) (result : Result Members Refusal) → ex Γ q ≡ accepted (typed e us) r → Judged (judge_one C o us p) result → behind ≡ before ++ flat (result_counts C.callees) e → PartsRead (result_counts C.callees) (head.One o) (one_at C ex o Γ p q) before behind r result
+one_judged C ex Γ p q o e us r before behind (Ok m) x j n = one_read C ex Γ p q o e us m r before behind x (j r) n
+one_judged C ex Γ p q o e us r before behind (Err w) x d n = rw x (declines_after (judge_one C o us p r) _ w (d r))
 
 two_noted : (counts : List ℕ) (o : Two) (a b : Expr) → flat counts (two_tree o a b) ≡ node (kind.Two o) (flat counts a ++ flat counts b)
 unfolding flat
@@ -174,9 +174,9 @@ pub two_read : (counts : List ℕ) (C : Context) (ex : Reads) (Γ : List ℕ) (p
 two_read counts C ex Γ p q o a b us vs m r s before middle behind x y j n k =
     (two_tree o a b, flat counts a ++ flat counts b, rw (x, y, j), two_noted counts o a b, grown₂ before (flat counts a) (flat counts b) n k, two_arity counts C o a b us vs p s (used m) s j)
 
-pub two_judged : (counts : List ℕ) (C : Context) (ex : Reads) (Γ : List ℕ) (p q : ℕ) (o : Two) (a b : Expr) (us vs : List ℕ) (r s : ℕ) (before middle behind : List Node) (result : Result Members Refusal) → ex Γ q ≡ accepted (typed a us) r → ex Γ r ≡ accepted (typed b vs) s → TypesRead (judge_two C o us vs p s) s result → middle ≡ before ++ flat counts a → behind ≡ middle ++ flat counts b → PartsRead counts (head.Two o) (two_at C ex o Γ p q) before behind s result
-two_judged counts C ex Γ p q o a b us vs r s before middle behind (Ok m) x y j n k = two_read counts C ex Γ p q o a b us vs m r s before middle behind x y j n k
-two_judged counts C ex Γ p q o a b us vs r s before middle behind (Err w) x y d n k = rw (x, y) (declines_after (judge_two C o us vs p s) _ w d)
+pub two_judged : (counts : List ℕ) (C : Context) (ex : Reads) (Γ : List ℕ) (p q : ℕ) (o : Two) (a b : Expr) (us vs : List ℕ) (r s : ℕ) (before middle behind : List Node) (result : Result Members Refusal) → ex Γ q ≡ accepted (typed a us) r → ex Γ r ≡ accepted (typed b vs) s → Judged (judge_two C o us vs p) result → middle ≡ before ++ flat counts a → behind ≡ middle ++ flat counts b → PartsRead counts (head.Two o) (two_at C ex o Γ p q) before behind s result
+two_judged counts C ex Γ p q o a b us vs r s before middle behind (Ok m) x y j n k = two_read counts C ex Γ p q o a b us vs m r s before middle behind x y (j s) n k
+two_judged counts C ex Γ p q o a b us vs r s before middle behind (Err w) x y d n k = rw (x, y) (declines_after (judge_two C o us vs p s) _ w (d s))
 
 -- Blocks.
 pub if_read : (counts : List ℕ) (ex : Reads) (Γ : List ℕ) (p q : ℕ) (e a b : Expr) (us vs : List ℕ) (m : Members) (r s u : ℕ) (n0 n1 n2 n3 : List Node) → ex Γ q ≡ accepted (typed e us) r → ex Γ r ≡ accepted (typed a (used m)) s → ex Γ s ≡ accepted (typed b vs) u → same (0 ∷ []) us ≡ true → same (used m) vs ≡ true → n1 ≡ n0 ++ flat counts e → n2 ≡ n1 ++ flat counts a → n3 ≡ n2 ++ flat counts b → arity counts a ≡ length (used m) → PartsRead counts head.If (if_at ex Γ p q) n0 n3 u (Ok m)
@@ -222,6 +222,24 @@ unfolding flat arity
 forall_read counts ex Γ p q g t a b e us vs ws Δ index m r s u n0 n1 n2 n3 x y o h z c1 c2 c3 f i j k =
     let d : bound Γ (1 ∷ []) p s ≡ accepted Δ s = ap (λ v. bound Γ v p s) (sym o) ∙ h in
     (forall g a b e, flat counts a ++ (flat counts b ++ flat counts e), rw (x, y, d, z, c1, c2, c3) (ap (λ w. accepted (typed (forall g a b e) w) u) (sym f)), refl, grown₃ n0 (flat counts a) (flat counts b) (flat counts e) i j k, ap length (sym f))
+
+pub forall_unbound : (ex : Reads) (Γ : List ℕ) (p q : ℕ) (g : Merge) (t : ℕ) (a b : Expr) (us vs index : List ℕ) (r s : ℕ) (w : Refusal) → ex Γ q ≡ accepted (typed a us) r → ex Γ r ≡ accepted (typed b vs) s → index ≡ 1 ∷ [] → Declines (bound Γ index p s) w → Declines (forall_at ex g t Γ p q) w
+forall_unbound ex Γ p q g t a b us vs index r s w x y o d =
+    rw (x, y) (declines_after (bound Γ (1 ∷ []) p s) _ w (subst (λ v. Declines (bound Γ v p s) w) o d))
+
+pub fails_second : (a b c : Bool) → b ≡ false → (a && (b && c)) ≡ false
+fails_second true b c h = ap (λ z. z && c) h
+fails_second false b c h = refl
+
+pub fails_third : (a b c : Bool) → c ≡ false → (a && (b && c)) ≡ false
+fails_third true true c h = h
+fails_third true false c h = refl
+fails_third false b c h = refl
+
+pub forall_clash : (ex : Reads) (Γ : List ℕ) (p q : ℕ) (g : Merge) (t : ℕ) (a b e : Expr) (us vs ws Δ index : List ℕ) (r s u : ℕ) → ex Γ q ≡ accepted (typed a us) r → ex Γ r ≡ accepted (typed b vs) s → index ≡ 1 ∷ [] → bound Γ index p s ≡ accepted Δ s → ex Δ s ≡ accepted (typed e ws) u → (same (1 ∷ []) us && (same (1 ∷ []) vs && same (t ∷ []) ws)) ≡ false → forall_at ex g t Γ p q ≡ refused (Clash p)
+forall_clash ex Γ p q g t a b e us vs ws Δ index r s u x y o h z c =
+    let d : bound Γ (1 ∷ []) p s ≡ accepted Δ s = ap (λ v. bound Γ v p s) (sym o) ∙ h in
+    rw (x, y, d, z, c)
 
 -- Ends of loops.
 module _ (counts : List ℕ) (ex : Reads) (en : Ends) (ts again Γ : List ℕ) (p q : ℕ) where

@@ -29,11 +29,6 @@ abbrev pub Plain : {A : Type 0} → Out A → ℕ → Result A Refusal → Type 
 Plain o next (Ok a) = o ≡ accepted a next
 Plain o next (Err e) = Declines o e
 
--- The same for one to eight types.
-abbrev pub TypesRead : Out (List ℕ) → ℕ → Result Members Refusal → Type 0
-TypesRead o next (Ok m) = o ≡ accepted (used m) next
-TypesRead o next (Err e) = Declines o e
-
 -- What is judged where the last part ends, wherever that is.
 abbrev pub Judged : (ℕ → Out (List ℕ)) → Result Members Refusal → Type 0
 Judged o (Ok m) = (next : ℕ) → o next ≡ accepted (used m) next
@@ -93,10 +88,10 @@ Opened before behind (Ok here) =
     (here ≡ length before) × ((k : Kind) × (behind ≡ before ++ record { kind = k; span = 0 } ∷ []))
 Opened before behind (Err e) = e ≡ Memory
 
--- The scope with the names that a record binds.
-abbrev pub Extended : Out (List ℕ) → ℕ → Result Scope Refusal → Type 0
-Extended o next (Ok s) = o ≡ accepted (names s) next
-Extended o next (Err e) = Declines o e
+-- The scope with the names that a record binds, the same.
+abbrev pub Extended : (ℕ → Out (List ℕ)) → Result Scope Refusal → Type 0
+Extended o (Ok s) = (next : ℕ) → o next ≡ accepted (names s) next
+Extended o (Err e) = (next : ℕ) → Declines (o next) e
 
 -- Reading went forward, and from one reader to the other the notes and the place changed as P says.
 pub record GoesOn {A : Type 0} (P : List Node → List Node → ℕ → Result A Refusal → Type 0) (old new : Reader) (r : Result A Refusal) : Type 0 where

@@ -4,6 +4,7 @@
 mod enclosing;
 mod filling;
 mod lists;
+mod parent;
 mod reader;
 mod scene;
 mod scope;

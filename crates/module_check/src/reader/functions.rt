@@ -5,6 +5,7 @@ ghost use Rattle.verdict.specs.Modules.{function_at, functions_at, module_at};
 ghost use Rattle.module_check.specs.Views.{context_of, counts_of};
 ghost use Rattle.module_check.specs.Reading.{FunctionRead, FunctionsRead, ModuleRead};
 
+use crate::parent::Parent;
 use crate::reader::Reader;
 use crate::scene::Scene;
 use crate::scope::Scope;
@@ -44,7 +45,7 @@ impl Reader {
             scope: &scope,
             room: 100,
         };
-        self.asked(&scene, results, start)?;
+        self.asked(&Parent { scene, start }, results)?;
         Ok(Function {
             parameters,
             results,

@@ -7,8 +7,9 @@ ghost use Rattle.module_check.specs.Reading.{Fit, Opened, GoesOn, ExprRead, Part
 
 use crate::enclosing::Enclosing;
 use crate::lists::single;
+use crate::parent::Parent;
+use crate::parent::judging::{end_noted, is_one, is_single, lead, merge_type, noted};
 use crate::reader::Reader;
-use crate::reader::judging::{end_noted, is_one, is_single, lead, merge_type, noted};
 use crate::scene::Scene;
 use language::{Block, Kind, Merge, Node, One, Two};
 use values::{Members, Refusal};
@@ -57,67 +58,70 @@ impl Reader {
         }
         let here = self.open()?;
         let head = self.head(scene, sort)?;
-        let inside = Scene {
-            room: scene.room - 1,
-            ..*scene
+        let parent = Parent {
+            scene: Scene {
+                room: scene.room - 1,
+                ..*scene
+            },
+            start,
         };
-        let types = self.parts(&inside, head, start)?;
+        let types = self.parts(&parent, head)?;
         self.close(here, noted(head, types));
         Ok(types)
     }
 
     // The parts of the record at start.
     #[cycle(expressions)]
-    fn parts(&mut self, scene: &Scene, head: Head, start: usize) -> Result<Members, Refusal>
+    fn parts(&mut self, parent: &Parent, head: Head) -> Result<Members, Refusal>
         requires { Fit head }
-        ensures { GoesOn (PartsRead (counts_in scene.now) head (parts_at (context_in scene.now) (expr_in scene.now) (end_in scene.now) head (names_in scene.now) start self.old.at)) self.old self.new result }
+        ensures { GoesOn (PartsRead (counts_in parent.now.scene) head (parts_at (context_in parent.now.scene) (expr_in parent.now.scene) (end_in parent.now.scene) head (names_in parent.now.scene) parent.now.start self.old.at)) self.old self.new result }
     {
         match head {
             Head::Leaf(_, number) => Ok(single(number)),
-            Head::One(one) => self.one(scene, one, start),
-            Head::Two(two) => self.two(scene, two, start),
-            Head::List(members) => self.list(scene, members, start),
-            Head::If => self.branch(scene, start),
-            Head::Let => self.binding(scene, start),
-            Head::Tagcase(arms) => self.tagcase(scene, arms, start),
-            Head::For(results) => self.cycle(scene, results, start),
-            Head::Forall(merge, part) => self.forall(scene, merge, part, start),
-            Head::Iter => Err(Refusal::Strange(start)),
+            Head::One(one) => self.one(parent, one),
+            Head::Two(two) => self.two(parent, two),
+            Head::List(members) => self.list(parent, members),
+            Head::If => self.branch(parent),
+            Head::Let => self.binding(parent),
+            Head::Tagcase(arms) => self.tagcase(parent, arms),
+            Head::For(results) => self.cycle(parent, results),
+            Head::Forall(merge, part) => self.forall(parent, merge, part),
+            Head::Iter => Err(Refusal::Strange(parent.start)),
         }
     }
 
     #[cycle(expressions)]
-    fn one(&mut self, scene: &Scene, one: One, start: usize) -> Result<Members, Refusal>
-        ensures { GoesOn (PartsRead (counts_in scene.now) (one_head one) (one_at (context_in scene.now) (expr_in scene.now) one (names_in scene.now) start self.old.at)) self.old self.new result }
+    fn one(&mut self, parent: &Parent, one: One) -> Result<Members, Refusal>
+        ensures { GoesOn (PartsRead (counts_in parent.now.scene) (one_head one) (one_at (context_in parent.now.scene) (expr_in parent.now.scene) one (names_in parent.now.scene) parent.now.start self.old.at)) self.old self.new result }
     {
-        let part = self.expr(scene)?;
-        self.judge_one(scene.tables, one, part, start)
+        let part = self.expr(&parent.scene)?;
+        parent.judge_one(one, part)
     }
 
     #[cycle(expressions)]
-    fn two(&mut self, scene: &Scene, two: Two, start: usize) -> Result<Members, Refusal>
-        ensures { GoesOn (PartsRead (counts_in scene.now) (two_head two) (two_at (context_in scene.now) (expr_in scene.now) two (names_in scene.now) start self.old.at)) self.old self.new result }
+    fn two(&mut self, parent: &Parent, two: Two) -> Result<Members, Refusal>
+        ensures { GoesOn (PartsRead (counts_in parent.now.scene) (two_head two) (two_at (context_in parent.now.scene) (expr_in parent.now.scene) two (names_in parent.now.scene) parent.now.start self.old.at)) self.old self.new result }
     {
-        let first = self.expr(scene)?;
-        let second = self.expr(scene)?;
-        self.judge_two(scene.tables, two, first, second, start)
+        let first = self.expr(&parent.scene)?;
+        let second = self.expr(&parent.scene)?;
+        parent.judge_two(two, first, second)
     }
 
     // The members have one value each.
     #[cycle(expressions)]
-    fn list(&mut self, scene: &Scene, members: u8, start: usize) -> Result<Members, Refusal>
+    fn list(&mut self, parent: &Parent, members: u8) -> Result<Members, Refusal>
         requires { (2 ≤ members) × (members ≤ 8) }
-        ensures { GoesOn (PartsRead (counts_in scene.now) (list_head members) (list_at (expr_in scene.now) members (names_in scene.now) start self.old.at)) self.old self.new result }
+        ensures { GoesOn (PartsRead (counts_in parent.now.scene) (list_head members) (list_at (expr_in parent.now.scene) members (names_in parent.now.scene) parent.now.start self.old.at)) self.old self.new result }
     {
         let mut numbers = [0; 8];
         let mut singles = true;
         for i in 0..members {
-            let part = self.expr(scene)?;
+            let part = self.expr(&parent.scene)?;
             singles &= is_single(part);
             numbers[i as usize] = lead(part);
         }
         if !singles {
-            return Err(Refusal::Clash(start));
+            return Err(Refusal::Clash(parent.start));
         }
         match Members::new(numbers, members) {
             Some(types) => Ok(types),
@@ -126,56 +130,57 @@ impl Reader {
     }
 
     #[cycle(expressions)]
-    fn branch(&mut self, scene: &Scene, start: usize) -> Result<Members, Refusal>
-        ensures { GoesOn (PartsRead (counts_in scene.now) if_head (if_at (expr_in scene.now) (names_in scene.now) start self.old.at)) self.old self.new result }
+    fn branch(&mut self, parent: &Parent) -> Result<Members, Refusal>
+        ensures { GoesOn (PartsRead (counts_in parent.now.scene) if_head (if_at (expr_in parent.now.scene) (names_in parent.now.scene) parent.now.start self.old.at)) self.old self.new result }
     {
-        let test = self.expr(scene)?;
-        let taken = self.expr(scene)?;
-        let other = self.expr(scene)?;
+        let test = self.expr(&parent.scene)?;
+        let taken = self.expr(&parent.scene)?;
+        let other = self.expr(&parent.scene)?;
         if is_one(0, test) && taken == other {
             Ok(taken)
         } else {
-            Err(Refusal::Clash(start))
+            Err(Refusal::Clash(parent.start))
         }
     }
 
     #[cycle(expressions)]
-    fn binding(&mut self, scene: &Scene, start: usize) -> Result<Members, Refusal>
-        ensures { GoesOn (PartsRead (counts_in scene.now) let_head (let_at (expr_in scene.now) (names_in scene.now) start self.old.at)) self.old self.new result }
+    fn binding(&mut self, parent: &Parent) -> Result<Members, Refusal>
+        ensures { GoesOn (PartsRead (counts_in parent.now.scene) let_head (let_at (expr_in parent.now.scene) (names_in parent.now.scene) parent.now.start self.old.at)) self.old self.new result }
     {
-        let definition = self.expr(scene)?;
-        let scope = &self.extend(scene.scope, definition, start)?;
-        self.expr(&Scene { scope, ..*scene })
+        let definition = self.expr(&parent.scene)?;
+        let scope = &parent.extend(definition)?;
+        self.expr(&Scene {
+            scope,
+            ..parent.scene
+        })
     }
 
     #[cycle(expressions)]
-    fn tagcase(&mut self, scene: &Scene, arms: u8, start: usize) -> Result<Members, Refusal>
-        ensures { GoesOn (PartsRead (counts_in scene.now) (tagcase_head arms) (tagcase_at (context_in scene.now) (expr_in scene.now) arms (names_in scene.now) start self.old.at)) self.old self.new result }
+    fn tagcase(&mut self, parent: &Parent, arms: u8) -> Result<Members, Refusal>
+        ensures { GoesOn (PartsRead (counts_in parent.now.scene) (tagcase_head arms) (tagcase_at (context_in parent.now.scene) (expr_in parent.now.scene) arms (names_in parent.now.scene) parent.now.start self.old.at)) self.old self.new result }
     {
-        let test = self.expr(scene)?;
-        let constituents = self.arms_of(scene.tables, arms, test, start)?;
-        if scene.scope.is_full() {
-            return Err(Refusal::Deep(start));
+        let test = self.expr(&parent.scene)?;
+        let constituents = parent.arms_of(arms, test)?;
+        if parent.scene.scope.is_full() {
+            return Err(Refusal::Deep(parent.start));
         }
-        self.arms(scene, constituents, start)
+        self.arms(parent, constituents)
     }
 
     // An arm for each constituent; all have the types of the first.
     #[cycle(expressions)]
-    fn arms(
-        &mut self,
-        scene: &Scene,
-        constituents: Members,
-        start: usize,
-    ) -> Result<Members, Refusal>
-        requires { length (names_in scene.now) < 96 }
-        ensures { GoesOn (ArmsRead (counts_in scene.now) start (length (used constituents)) (arms_at (expr_in scene.now) (used constituents) (names_in scene.now) self.old.at)) self.old self.new result }
+    fn arms(&mut self, parent: &Parent, constituents: Members) -> Result<Members, Refusal>
+        requires { length (names_in parent.now.scene) < 96 }
+        ensures { GoesOn (ArmsRead (counts_in parent.now.scene) parent.now.start (length (used constituents)) (arms_at (expr_in parent.now.scene) (used constituents) (names_in parent.now.scene) self.old.at)) self.old self.new result }
     {
         let mut first = None;
         let mut agree = true;
         for constituent in constituents.as_slice() {
-            let scope = &scene.scope.with(*constituent);
-            let types = self.expr(&Scene { scope, ..*scene })?;
+            let scope = &parent.scene.scope.with(*constituent);
+            let types = self.expr(&Scene {
+                scope,
+                ..parent.scene
+            })?;
             let shared = first.unwrap_or(types);
             agree &= shared == types;
             first = Some(shared);
@@ -184,56 +189,54 @@ impl Reader {
         if agree {
             Ok(types)
         } else {
-            Err(Refusal::Clash(start))
+            Err(Refusal::Clash(parent.start))
         }
     }
 
     #[cycle(expressions)]
-    fn cycle(&mut self, scene: &Scene, results: Members, start: usize) -> Result<Members, Refusal>
-        ensures { GoesOn (PartsRead (counts_in scene.now) (for_head results) (for_at (expr_in scene.now) (end_in scene.now) (used results) (names_in scene.now) start self.old.at)) self.old self.new result }
+    fn cycle(&mut self, parent: &Parent, results: Members) -> Result<Members, Refusal>
+        ensures { GoesOn (PartsRead (counts_in parent.now.scene) (for_head results) (for_at (expr_in parent.now.scene) (end_in parent.now.scene) (used results) (names_in parent.now.scene) parent.now.start self.old.at)) self.old self.new result }
     {
-        let names = self.expr(scene)?;
-        let scope = &self.extend(scene.scope, names, start)?;
-        self.end(&Scene { scope, ..*scene }, Enclosing { results, names })?;
+        let names = self.expr(&parent.scene)?;
+        let scope = &parent.extend(names)?;
+        self.end(
+            &Scene {
+                scope,
+                ..parent.scene
+            },
+            Enclosing { results, names },
+        )?;
         Ok(results)
     }
 
     #[cycle(expressions)]
-    fn forall(
-        &mut self,
-        scene: &Scene,
-        merge: Merge,
-        part: u8,
-        start: usize,
-    ) -> Result<Members, Refusal>
-        ensures { GoesOn (PartsRead (counts_in scene.now) (forall_head merge part) (forall_at (expr_in scene.now) merge part (names_in scene.now) start self.old.at)) self.old self.new result }
+    fn forall(&mut self, parent: &Parent, merge: Merge, part: u8) -> Result<Members, Refusal>
+        ensures { GoesOn (PartsRead (counts_in parent.now.scene) (forall_head merge part) (forall_at (expr_in parent.now.scene) merge part (names_in parent.now.scene) parent.now.start self.old.at)) self.old self.new result }
     {
-        let low = self.expr(scene)?;
-        let high = self.expr(scene)?;
-        let scope = &self.extend(scene.scope, single(1), start)?;
-        let types = self.expr(&Scene { scope, ..*scene })?;
+        let low = self.expr(&parent.scene)?;
+        let high = self.expr(&parent.scene)?;
+        let scope = &parent.extend(single(1))?;
+        let types = self.expr(&Scene {
+            scope,
+            ..parent.scene
+        })?;
         if is_one(1, low) && is_one(1, high) && is_one(part, types) {
             Ok(single(merge_type(merge)))
         } else {
-            Err(Refusal::Clash(start))
+            Err(Refusal::Clash(parent.start))
         }
     }
 
     // An expression of these types; the record at start is at fault where it has others.
     #[cycle(expressions)]
-    pub(crate) fn asked(
-        &mut self,
-        scene: &Scene,
-        types: Members,
-        start: usize,
-    ) -> Result<(), Refusal>
-        ensures { GoesOn (AskedRead (counts_in scene.now) (used types) start (expr_in scene.now (names_in scene.now) self.old.at)) self.old self.new result }
+    pub(crate) fn asked(&mut self, parent: &Parent, types: Members) -> Result<(), Refusal>
+        ensures { GoesOn (AskedRead (counts_in parent.now.scene) (used types) parent.now.start (expr_in parent.now.scene (names_in parent.now.scene) self.old.at)) self.old self.new result }
     {
-        let found = self.expr(scene)?;
+        let found = self.expr(&parent.scene)?;
         if types == found {
             Ok(())
         } else {
-            Err(Refusal::Clash(start))
+            Err(Refusal::Clash(parent.start))
         }
     }
 
@@ -245,18 +248,22 @@ impl Reader {
         let start = self.at;
         let sort = self.end_kind(scene.bytes)?;
         if !is_end(sort) {
-            return self.asked(scene, enclosing.results, start);
+            let scene = *scene;
+            return self.asked(&Parent { scene, start }, enclosing.results);
         }
         if scene.room == 0 {
             return Err(Refusal::Deep(start));
         }
         let here = self.open()?;
         let head = self.head(scene, sort)?;
-        let inside = Scene {
-            room: scene.room - 1,
-            ..*scene
+        let parent = Parent {
+            scene: Scene {
+                room: scene.room - 1,
+                ..*scene
+            },
+            start,
         };
-        self.end_parts(&inside, head, enclosing, start)?;
+        self.end_parts(&parent, head, enclosing)?;
         self.close(here, end_noted(head, enclosing.results));
         Ok(())
     }
@@ -265,61 +272,60 @@ impl Reader {
     #[cycle(expressions)]
     fn end_parts(
         &mut self,
-        scene: &Scene,
+        parent: &Parent,
         head: Head,
         enclosing: Enclosing,
-        start: usize,
     ) -> Result<(), Refusal>
-        ensures { GoesOn (EndPartsRead (counts_in scene.now) (used enclosing.results) head (end_parts_at (context_in scene.now) (expr_in scene.now) (end_in scene.now) head (used enclosing.results) (used enclosing.names) (names_in scene.now) start self.old.at)) self.old self.new result }
+        ensures { GoesOn (EndPartsRead (counts_in parent.now.scene) (used enclosing.results) head (end_parts_at (context_in parent.now.scene) (expr_in parent.now.scene) (end_in parent.now.scene) head (used enclosing.results) (used enclosing.names) (names_in parent.now.scene) parent.now.start self.old.at)) self.old self.new result }
     {
         match head {
-            Head::If => self.end_if(scene, enclosing, start),
-            Head::Let => self.end_let(scene, enclosing, start),
-            Head::Tagcase(arms) => self.end_tag(scene, arms, enclosing, start),
-            Head::Iter => self.asked(scene, enclosing.names, start),
-            _ => Err(Refusal::Strange(start)),
+            Head::If => self.end_if(parent, enclosing),
+            Head::Let => self.end_let(parent, enclosing),
+            Head::Tagcase(arms) => self.end_tag(parent, arms, enclosing),
+            Head::Iter => self.asked(parent, enclosing.names),
+            _ => Err(Refusal::Strange(parent.start)),
         }
     }
 
     #[cycle(expressions)]
-    fn end_if(&mut self, scene: &Scene, enclosing: Enclosing, start: usize) -> Result<(), Refusal>
-        ensures { GoesOn (EndPartsRead (counts_in scene.now) (used enclosing.results) if_head (if_end_at (expr_in scene.now) (end_in scene.now) (used enclosing.results) (used enclosing.names) (names_in scene.now) start self.old.at)) self.old self.new result }
+    fn end_if(&mut self, parent: &Parent, enclosing: Enclosing) -> Result<(), Refusal>
+        ensures { GoesOn (EndPartsRead (counts_in parent.now.scene) (used enclosing.results) if_head (if_end_at (expr_in parent.now.scene) (end_in parent.now.scene) (used enclosing.results) (used enclosing.names) (names_in parent.now.scene) parent.now.start self.old.at)) self.old self.new result }
     {
-        let test = self.expr(scene)?;
-        self.end(scene, enclosing)?;
-        self.end(scene, enclosing)?;
+        let test = self.expr(&parent.scene)?;
+        self.end(&parent.scene, enclosing)?;
+        self.end(&parent.scene, enclosing)?;
         if is_one(0, test) {
             Ok(())
         } else {
-            Err(Refusal::Clash(start))
+            Err(Refusal::Clash(parent.start))
         }
     }
 
     #[cycle(expressions)]
-    fn end_let(&mut self, scene: &Scene, enclosing: Enclosing, start: usize) -> Result<(), Refusal>
-        ensures { GoesOn (EndPartsRead (counts_in scene.now) (used enclosing.results) let_head (let_end_at (expr_in scene.now) (end_in scene.now) (used enclosing.results) (used enclosing.names) (names_in scene.now) start self.old.at)) self.old self.new result }
+    fn end_let(&mut self, parent: &Parent, enclosing: Enclosing) -> Result<(), Refusal>
+        ensures { GoesOn (EndPartsRead (counts_in parent.now.scene) (used enclosing.results) let_head (let_end_at (expr_in parent.now.scene) (end_in parent.now.scene) (used enclosing.results) (used enclosing.names) (names_in parent.now.scene) parent.now.start self.old.at)) self.old self.new result }
     {
-        let definition = self.expr(scene)?;
-        let scope = &self.extend(scene.scope, definition, start)?;
-        self.end(&Scene { scope, ..*scene }, enclosing)
+        let definition = self.expr(&parent.scene)?;
+        let scope = &parent.extend(definition)?;
+        self.end(
+            &Scene {
+                scope,
+                ..parent.scene
+            },
+            enclosing,
+        )
     }
 
     #[cycle(expressions)]
-    fn end_tag(
-        &mut self,
-        scene: &Scene,
-        arms: u8,
-        enclosing: Enclosing,
-        start: usize,
-    ) -> Result<(), Refusal>
-        ensures { GoesOn (EndPartsRead (counts_in scene.now) (used enclosing.results) (tagcase_head arms) (tagcase_end_at (context_in scene.now) (expr_in scene.now) (end_in scene.now) arms (used enclosing.results) (used enclosing.names) (names_in scene.now) start self.old.at)) self.old self.new result }
+    fn end_tag(&mut self, parent: &Parent, arms: u8, enclosing: Enclosing) -> Result<(), Refusal>
+        ensures { GoesOn (EndPartsRead (counts_in parent.now.scene) (used enclosing.results) (tagcase_head arms) (tagcase_end_at (context_in parent.now.scene) (expr_in parent.now.scene) (end_in parent.now.scene) arms (used enclosing.results) (used enclosing.names) (names_in parent.now.scene) parent.now.start self.old.at)) self.old self.new result }
     {
-        let test = self.expr(scene)?;
-        let constituents = self.arms_of(scene.tables, arms, test, start)?;
-        if scene.scope.is_full() {
-            return Err(Refusal::Deep(start));
+        let test = self.expr(&parent.scene)?;
+        let constituents = parent.arms_of(arms, test)?;
+        if parent.scene.scope.is_full() {
+            return Err(Refusal::Deep(parent.start));
         }
-        self.ends(scene, constituents, enclosing)
+        self.ends(&parent.scene, constituents, enclosing)
     }
 
     #[cycle(expressions)]

@@ -4,8 +4,8 @@ ghost use Rattle.language.specs.Sorts.{has_twin};
 ghost use Rattle.verdict.specs.Modules.{counted_uses, shaped, row_at, rows_at};
 ghost use Rattle.module_check.specs.Reading.{Plain, UsesRead, RowsRead};
 
+use crate::parent::judging::lead;
 use crate::reader::Reader;
-use crate::reader::judging::lead;
 use crate::tables::Tables;
 use values::{Members, Refusal, Row, Types};
 use verdict::Shape;

@@ -1,7 +1,8 @@
-use Rattle.std.proofs.Common.{◌≡◌, true, ◌+◌, ◌-◌, ◌<◌, ◌≤◌, ◌&&◌, [], ◌∷◌, ◌++◌, length, get_or, replicate, Ok, vec_items, sym, refl, inr, ap, ◌∙◌, subst, arith, length-set, rules}
+use Rattle.std.proofs.Common.{◌≡◌, true, false, ◌+◌, ◌-◌, ◌<◌, ◌≤◌, ◌&&◌, [], ◌∷◌, ◌++◌, length, get_or, replicate, Ok, vec_items, sym, refl, inr, ap, ◌∙◌, subst, arith, length-set, rules}
 use Rattle.std.proofs.lemmas.Result.{err_from_is_err_and}
 use Rattle.std.proofs.lemmas.Bool.{lt-ltb}
 use Rattle.values.specs.Rows.{used}
+use Rattle.language.specs.Sorts.{same}
 use Rattle.language.specs.Tables.{node}
 use Rattle.verdict.specs.Bodies.{head_at}
 use Rattle.verdict.specs.Outcomes.{accepted}
@@ -12,42 +13,43 @@ use Rattle.verdict.proofs.Members.{members_few}
 use Rattle.module_check.specs.Views.{context_in, counts_in, names_in, expr_in, end_in}
 use Rattle.module_check.specs.Reading.{Declines, PartsRead, EndRead, EndPartsRead}
 use Rattle.module_check.proofs.Tests.{pointwise_same}
-use Rattle.module_check.proofs.Steps.{closed, inside, expr_unread, expr_deep, expr_headless, expr_parts, end_unread, end_deep, end_headless, end_parts, end_done, leaf_read, one_judged, two_judged, if_read, let_body, tagcase_arms, for_read, forall_read, iter_asked, if_end_read, let_end_body, tagcase_ends, done_asked}
+use Rattle.module_check.proofs.Steps.{closed, inside, expr_unread, expr_deep, expr_headless, expr_parts, end_unread, end_deep, end_headless, end_parts, end_done, leaf_read, one_judged, two_judged, if_read, let_body, tagcase_arms, for_read, forall_read, forall_unbound, forall_clash, fails_second, fails_third, iter_asked, if_end_read, let_end_body, tagcase_ends, done_asked}
 use Rattle.module_check.proofs.Loops.{shared, first_shared, Listing, Arming, listing_none, listing_more, listing_fails, listing_clash, listing_done, arming_none, arming_more, arming_fails, arming_clash, arming_done, ending_none, ending_more, ending_fails, ending_done}
 use Rattle.module_check.proofs.reader.Reader.+expressions.Goals as goal
+use Rattle.module_check.proofs.reader.Reader.+expressions.Goals.{forall-else-is_one-via-then-is_one+then-is_one-2+else-is_one-3, forall-else-is_one-via-then-is_one+else-is_one-2, forall-else-is_one-via-else-is_one}
 
 pub branch-returns-then-eq : goal.branch-returns-then-eq
 branch-returns-then-eq t c =
     let X = c.in_ok-test.ensures in
     let Y = c.in_ok-taken.ensures in
     let Z = c.in_ok-other.ensures in
-    record { later = omega (arith, X.later, Y.later, Z.later); reads = if_read (counts_in c.args.scene.now) (expr_in c.args.scene.now) (names_in c.args.scene.now) c.args.start c.args.self.now.at X.reads.0 Y.reads.0 Z.reads.0 _ _ c.in_ok-taken.taken _ _ _ _ _ _ _ X.reads.1 Y.reads.1 Z.reads.1 (sym c.is_one.ensures ∙ c.if-is_one.true) (sym (c.eq.ensures ∙ pointwise_same (used c.in_ok-taken.taken) (used c.in_ok-other.other)) ∙ c.if-eq.true) X.reads.2 Y.reads.2 Z.reads.2 Y.reads.3 }
+    record { later = omega (arith, X.later, Y.later, Z.later); reads = if_read (counts_in c.args.parent.now.scene) (expr_in c.args.parent.now.scene) (names_in c.args.parent.now.scene) c.args.parent.now.start c.args.self.now.at X.reads.0 Y.reads.0 Z.reads.0 _ _ c.in_ok-taken.taken _ _ _ _ _ _ _ X.reads.1 Y.reads.1 Z.reads.1 (sym c.is_one.ensures ∙ c.if-is_one.true) (sym (c.eq.ensures ∙ pointwise_same (used c.in_ok-taken.taken) (used c.in_ok-other.other)) ∙ c.if-eq.true) X.reads.2 Y.reads.2 Z.reads.2 Y.reads.3 }
 
 pub cycle-returns : goal.cycle-returns
 cycle-returns t c =
     let X = c.in_ok-names.ensures in
-    let I = c.in_ok-scope.ensures in
+    let I = (c.in_ok-scope.ensures _) in
     let Y = c.in_ok-end.ensures in
-    record { later = omega (arith, X.later, Y.later); reads = for_read (counts_in c.args.scene.now) (expr_in c.args.scene.now) (end_in c.args.scene.now) (names_in c.args.scene.now) c.args.start c.args.self.now.at X.reads.0 _ _ Y.reads.0 c.args.results _ _ _ _ _ X.reads.1 I Y.reads.1 X.reads.2 Y.reads.2 }
+    record { later = omega (arith, X.later, Y.later); reads = for_read (counts_in c.args.parent.now.scene) (expr_in c.args.parent.now.scene) (end_in c.args.parent.now.scene) (names_in c.args.parent.now.scene) c.args.parent.now.start c.args.self.now.at X.reads.0 _ _ Y.reads.0 c.args.results _ _ _ _ _ X.reads.1 I Y.reads.1 X.reads.2 Y.reads.2 }
 
 pub forall-returns-then-is_one-3 : goal.forall-returns-then-is_one-3
 forall-returns-then-is_one-3 t c =
     let X = c.in_ok-low.ensures in
     let Y = c.in_ok-high.ensures in
-    let I = c.in_ok-scope.ensures in
+    let I = (c.in_ok-scope.ensures _) in
     let Z = c.in_ok-types.ensures in
-    record { later = omega (arith, X.later, Y.later, Z.later); reads = forall_read (counts_in c.args.scene.now) (expr_in c.args.scene.now) (names_in c.args.scene.now) c.args.start c.args.self.now.at c.args.merge c.args.part X.reads.0 Y.reads.0 Z.reads.0 _ _ _ _ _ c.single-then-is_one-3.result _ _ _ _ _ _ _ X.reads.1 Y.reads.1 c.single.ensures I Z.reads.1 (sym c.is_one.ensures ∙ c.if-is_one.true) (sym c.is_one-then-is_one.ensures ∙ c.if-is_one-2.true) (sym c.is_one-then-is_one-2.ensures ∙ c.if-is_one-3.true) (c.single-then-is_one-3.ensures ∙ ap (λ z. z ∷ []) c.merge_type.ensures) X.reads.2 Y.reads.2 Z.reads.2 }
+    record { later = omega (arith, X.later, Y.later, Z.later); reads = forall_read (counts_in c.args.parent.now.scene) (expr_in c.args.parent.now.scene) (names_in c.args.parent.now.scene) c.args.parent.now.start c.args.self.now.at c.args.merge c.args.part X.reads.0 Y.reads.0 Z.reads.0 _ _ _ _ _ c.single-then-is_one-3.result _ _ _ _ _ _ _ X.reads.1 Y.reads.1 c.single.ensures I Z.reads.1 (sym c.is_one.ensures ∙ c.if-is_one.true) (sym c.is_one-then-is_one.ensures ∙ c.if-is_one-2.true) (sym c.is_one-then-is_one-2.ensures ∙ c.if-is_one-3.true) (c.single-then-is_one-3.ensures ∙ ap (λ z. z ∷ []) c.merge_type.ensures) X.reads.2 Y.reads.2 Z.reads.2 }
 
 pub end_if-returns-then-is_one : goal.end_if-returns-then-is_one
 end_if-returns-then-is_one t c =
     let X = c.in_ok-test.ensures in
     let Y = c.in_ok-end.ensures in
     let Z = c.in_ok-end-2.ensures in
-    record { later = omega (arith, X.later, Y.later, Z.later); reads = if_end_read (counts_in c.args.scene.now) (expr_in c.args.scene.now) (end_in c.args.scene.now) (used c.args.enclosing.results) (used c.args.enclosing.names) (names_in c.args.scene.now) c.args.start c.args.self.now.at X.reads.0 _ Y.reads.0 Z.reads.0 _ _ _ _ _ _ _ X.reads.1 Y.reads.1 Z.reads.1 (sym c.is_one.ensures ∙ c.if-is_one.true) X.reads.2 Y.reads.2 Z.reads.2 }
+    record { later = omega (arith, X.later, Y.later, Z.later); reads = if_end_read (counts_in c.args.parent.now.scene) (expr_in c.args.parent.now.scene) (end_in c.args.parent.now.scene) (used c.args.enclosing.results) (used c.args.enclosing.names) (names_in c.args.parent.now.scene) c.args.parent.now.start c.args.self.now.at X.reads.0 _ Y.reads.0 Z.reads.0 _ _ _ _ _ _ _ X.reads.1 Y.reads.1 Z.reads.1 (sym c.is_one.ensures ∙ c.if-is_one.true) X.reads.2 Y.reads.2 Z.reads.2 }
 
 pub parts-returns-in-Leaf : goal.parts-returns-in-Leaf
 parts-returns-in-Leaf t c =
-    record { later = search rules; reads = subst (λ h. PartsRead (counts_in c.args.scene.now) h (parts_at (context_in c.args.scene.now) (expr_in c.args.scene.now) (end_in c.args.scene.now) h (names_in c.args.scene.now) c.args.start c.args.self.now.at) (vec_items c.args.self.now.nodes) (vec_items c.args.self.now.nodes) c.args.self.now.at (Ok c.single.result)) (sym c.in-Leaf.is) (leaf_read (counts_in c.args.scene.now) (context_in c.args.scene.now) (expr_in c.args.scene.now) (end_in c.args.scene.now) (names_in c.args.scene.now) c.args.start c.args.self.now.at c.in-Leaf.field-0 c.in-Leaf.number c.single.result (vec_items c.args.self.now.nodes) c.single.ensures) }
+    record { later = search rules; reads = subst (λ h. PartsRead (counts_in c.args.parent.now.scene) h (parts_at (context_in c.args.parent.now.scene) (expr_in c.args.parent.now.scene) (end_in c.args.parent.now.scene) h (names_in c.args.parent.now.scene) c.args.parent.now.start c.args.self.now.at) (vec_items c.args.self.now.nodes) (vec_items c.args.self.now.nodes) c.args.self.now.at (Ok c.single.result)) (sym c.in-Leaf.is) (leaf_read (counts_in c.args.parent.now.scene) (context_in c.args.parent.now.scene) (expr_in c.args.parent.now.scene) (end_in c.args.parent.now.scene) (names_in c.args.parent.now.scene) c.args.parent.now.start c.args.self.now.at c.in-Leaf.field-0 c.in-Leaf.number c.single.result (vec_items c.args.self.now.nodes) c.single.ensures) }
 
 pub expr-returns-in_err-sort : goal.expr-returns-in_err-sort
 expr-returns-in_err-sort t c =
@@ -156,69 +158,69 @@ end-returns t c =
 
 pub list-loop-i-init : goal.list-loop-i-init
 list-loop-i-init t c =
-    (omega arith, refl, listing_none (counts_in c.args.scene.now) (expr_in c.args.scene.now) (names_in c.args.scene.now) c.args.members c.args.self.now.at (vec_items c.args.self.now.nodes) (replicate 8 0))
+    (omega arith, refl, listing_none (counts_in c.args.parent.now.scene) (expr_in c.args.parent.now.scene) (names_in c.args.parent.now.scene) c.args.members c.args.self.now.at (vec_items c.args.self.now.nodes) (replicate 8 0))
 
 pub list-loop-i-preserved : goal.list-loop-i-preserved
 list-loop-i-preserved t c =
     let I = c.loop-i.invariant in
     let X = c.in_ok-part.ensures in
     let l : c.loop-i.i < length c.loop-i.numbers = omega (arith, I.1, c.requires.1) in
-    (omega (arith, I.0, X.later), length-set c.loop-i.numbers c.loop-i.i c.lead.result ∙ I.1, listing_more (counts_in c.args.scene.now) (expr_in c.args.scene.now) (names_in c.args.scene.now) c.args.members c.args.self.now.at (vec_items c.args.self.now.nodes) c.loop-i.i c.loop-i.numbers c.loop-i.singles _ _ _ c.loop-i.self.at _ c.lead.result X.reads.0 _ I.2 c.loop-i-test.true l X.reads.1 X.reads.2 (ap (λ b. c.loop-i.singles && b) c.is_single-singles.ensures) c.lead.ensures)
+    (omega (arith, I.0, X.later), length-set c.loop-i.numbers c.loop-i.i c.lead.result ∙ I.1, listing_more (counts_in c.args.parent.now.scene) (expr_in c.args.parent.now.scene) (names_in c.args.parent.now.scene) c.args.members c.args.self.now.at (vec_items c.args.self.now.nodes) c.loop-i.i c.loop-i.numbers c.loop-i.singles _ _ _ c.loop-i.self.at _ c.lead.result X.reads.0 _ I.2 c.loop-i-test.true l X.reads.1 X.reads.2 (ap (λ b. c.loop-i.singles && b) c.is_single-singles.ensures) c.lead.ensures)
 
 pub list-returns-in_err-part : goal.list-returns-in_err-part
 list-returns-in_err-part t c =
     let p = err_from_is_err_and c.from_residual.result c.from_residual.ensures.1 in
     let I = c.loop-i.invariant in
     let B = c.in_err-part.ensures in
-    record { later = omega (arith, I.0, B.later); reads = rw (p.1, p.2) (listing_fails (counts_in c.args.scene.now) (expr_in c.args.scene.now) (names_in c.args.scene.now) c.args.members c.args.self.now.at (vec_items c.args.self.now.nodes) c.args.start c.loop-i.i c.loop-i.numbers c.loop-i.singles _ c.loop-i.self.at _ I.2 c.loop-i-test.true B.reads) }
+    record { later = omega (arith, I.0, B.later); reads = rw (p.1, p.2) (listing_fails (counts_in c.args.parent.now.scene) (expr_in c.args.parent.now.scene) (names_in c.args.parent.now.scene) c.args.members c.args.self.now.at (vec_items c.args.self.now.nodes) c.args.parent.now.start c.loop-i.i c.loop-i.numbers c.loop-i.singles _ c.loop-i.self.at _ I.2 c.loop-i-test.true B.reads) }
 
 pub list-returns-then-not-singles : goal.list-returns-then-not-singles
 list-returns-then-not-singles t c =
     let I = c.loop-i.invariant in
     let f = c.if-not-singles.true in
-    record { later = I.0; reads = inr (listing_clash (counts_in c.args.scene.now) (expr_in c.args.scene.now) (names_in c.args.scene.now) c.args.members c.args.self.now.at (vec_items c.args.self.now.nodes) c.args.start c.loop-i.i c.loop-i.numbers _ c.loop-i.self.at (subst (λ b. Listing (counts_in c.args.scene.now) (expr_in c.args.scene.now) (names_in c.args.scene.now) c.args.members c.args.self.now.at (vec_items c.args.self.now.nodes) c.loop-i.i c.loop-i.numbers b (vec_items c.loop-i.self.nodes) c.loop-i.self.at) f I.2) c.loop-i-test.false) }
+    record { later = I.0; reads = inr (listing_clash (counts_in c.args.parent.now.scene) (expr_in c.args.parent.now.scene) (names_in c.args.parent.now.scene) c.args.members c.args.self.now.at (vec_items c.args.self.now.nodes) c.args.parent.now.start c.loop-i.i c.loop-i.numbers _ c.loop-i.self.at (subst (λ b. Listing (counts_in c.args.parent.now.scene) (expr_in c.args.parent.now.scene) (names_in c.args.parent.now.scene) c.args.members c.args.self.now.at (vec_items c.args.self.now.nodes) c.loop-i.i c.loop-i.numbers b (vec_items c.loop-i.self.nodes) c.loop-i.self.at) f I.2) c.loop-i-test.false) }
 
 pub list-returns : goal.list-returns
 list-returns t c =
     let I = c.loop-i.invariant in
     let M = c.in-Some.ensures in
     let f = c.if-not-singles.false in
-    record { later = I.0; reads = listing_done (counts_in c.args.scene.now) (expr_in c.args.scene.now) (names_in c.args.scene.now) c.args.members c.args.self.now.at (vec_items c.args.self.now.nodes) c.args.start c.loop-i.i c.loop-i.numbers _ c.loop-i.self.at c.in-Some.types (subst (λ b. Listing (counts_in c.args.scene.now) (expr_in c.args.scene.now) (names_in c.args.scene.now) c.args.members c.args.self.now.at (vec_items c.args.self.now.nodes) c.loop-i.i c.loop-i.numbers b (vec_items c.loop-i.self.nodes) c.loop-i.self.at) f I.2) c.loop-i-test.false c.loop-i.auto.i-end M.0 M.1 }
+    record { later = I.0; reads = listing_done (counts_in c.args.parent.now.scene) (expr_in c.args.parent.now.scene) (names_in c.args.parent.now.scene) c.args.members c.args.self.now.at (vec_items c.args.self.now.nodes) c.args.parent.now.start c.loop-i.i c.loop-i.numbers _ c.loop-i.self.at c.in-Some.types (subst (λ b. Listing (counts_in c.args.parent.now.scene) (expr_in c.args.parent.now.scene) (names_in c.args.parent.now.scene) c.args.members c.args.self.now.at (vec_items c.args.self.now.nodes) c.loop-i.i c.loop-i.numbers b (vec_items c.loop-i.self.nodes) c.loop-i.self.at) f I.2) c.loop-i-test.false c.loop-i.auto.i-end M.0 M.1 }
 
 pub one-returns : goal.one-returns
 one-returns t c =
     let X = c.in_ok-part.ensures in
-    record { later = X.later; reads = one_judged (context_in c.args.scene.now) (expr_in c.args.scene.now) (names_in c.args.scene.now) c.args.start c.args.self.now.at c.args.one X.reads.0 _ _ _ _ c.judge_one.result X.reads.1 c.judge_one.ensures X.reads.2 }
+    record { later = X.later; reads = one_judged (context_in c.args.parent.now.scene) (expr_in c.args.parent.now.scene) (names_in c.args.parent.now.scene) c.args.parent.now.start c.args.self.now.at c.args.one X.reads.0 _ _ _ _ c.judge_one.result X.reads.1 c.judge_one.ensures X.reads.2 }
 
 pub two-returns : goal.two-returns
 two-returns t c =
     let X = c.in_ok-first.ensures in
     let Y = c.in_ok-second.ensures in
-    record { later = omega (arith, X.later, Y.later); reads = two_judged (counts_in c.args.scene.now) (context_in c.args.scene.now) (expr_in c.args.scene.now) (names_in c.args.scene.now) c.args.start c.args.self.now.at c.args.two X.reads.0 Y.reads.0 _ _ _ _ _ _ _ c.judge_two.result X.reads.1 Y.reads.1 c.judge_two.ensures X.reads.2 Y.reads.2 }
+    record { later = omega (arith, X.later, Y.later); reads = two_judged (counts_in c.args.parent.now.scene) (context_in c.args.parent.now.scene) (expr_in c.args.parent.now.scene) (names_in c.args.parent.now.scene) c.args.parent.now.start c.args.self.now.at c.args.two X.reads.0 Y.reads.0 _ _ _ _ _ _ _ c.judge_two.result X.reads.1 Y.reads.1 c.judge_two.ensures X.reads.2 Y.reads.2 }
 
 pub binding-returns : goal.binding-returns
 binding-returns t c =
     let X = c.in_ok-definition.ensures in
     let Y = c.expr-2.ensures in
-    record { later = omega (arith, X.later, Y.later); reads = let_body (counts_in c.args.scene.now) (expr_in c.args.scene.now) (names_in c.args.scene.now) c.args.start c.args.self.now.at X.reads.0 _ _ _ _ _ _ _ c.expr-2.result X.reads.1 c.in_ok-scope.ensures Y.reads X.reads.2 }
+    record { later = omega (arith, X.later, Y.later); reads = let_body (counts_in c.args.parent.now.scene) (expr_in c.args.parent.now.scene) (names_in c.args.parent.now.scene) c.args.parent.now.start c.args.self.now.at X.reads.0 _ _ _ _ _ _ _ c.expr-2.result X.reads.1 (c.in_ok-scope.ensures _) Y.reads X.reads.2 }
 
 pub tagcase-returns : goal.tagcase-returns
 tagcase-returns t c =
     let X = c.in_ok-test.ensures in
     let Y = c.arms.ensures in
-    record { later = omega (arith, X.later, Y.later); reads = tagcase_arms (counts_in c.args.scene.now) (context_in c.args.scene.now) (expr_in c.args.scene.now) (names_in c.args.scene.now) c.args.start c.args.self.now.at c.args.arms X.reads.0 _ _ _ _ _ _ _ c.arms.result X.reads.1 c.in_ok-constituents.ensures (search rules) Y.reads X.reads.2 }
+    record { later = omega (arith, X.later, Y.later); reads = tagcase_arms (counts_in c.args.parent.now.scene) (context_in c.args.parent.now.scene) (expr_in c.args.parent.now.scene) (names_in c.args.parent.now.scene) c.args.parent.now.start c.args.self.now.at c.args.arms X.reads.0 _ _ _ _ _ _ _ c.arms.result X.reads.1 (c.in_ok-constituents.ensures _) (search rules) Y.reads X.reads.2 }
 
 pub end_let-returns : goal.end_let-returns
 end_let-returns t c =
     let X = c.in_ok-definition.ensures in
     let Y = c.end.ensures in
-    record { later = omega (arith, X.later, Y.later); reads = let_end_body (counts_in c.args.scene.now) (expr_in c.args.scene.now) (end_in c.args.scene.now) (used c.args.enclosing.results) (used c.args.enclosing.names) (names_in c.args.scene.now) c.args.start c.args.self.now.at X.reads.0 _ _ _ _ _ _ _ c.end.result X.reads.1 c.in_ok-scope.ensures Y.reads X.reads.2 }
+    record { later = omega (arith, X.later, Y.later); reads = let_end_body (counts_in c.args.parent.now.scene) (expr_in c.args.parent.now.scene) (end_in c.args.parent.now.scene) (used c.args.enclosing.results) (used c.args.enclosing.names) (names_in c.args.parent.now.scene) c.args.parent.now.start c.args.self.now.at X.reads.0 _ _ _ _ _ _ _ c.end.result X.reads.1 (c.in_ok-scope.ensures _) Y.reads X.reads.2 }
 
 pub end_tag-returns : goal.end_tag-returns
 end_tag-returns t c =
     let X = c.in_ok-test.ensures in
     let Y = c.ends.ensures in
-    record { later = omega (arith, X.later, Y.later); reads = tagcase_ends (counts_in c.args.scene.now) (expr_in c.args.scene.now) (end_in c.args.scene.now) (used c.args.enclosing.results) (used c.args.enclosing.names) (names_in c.args.scene.now) c.args.start c.args.self.now.at (context_in c.args.scene.now) c.args.arms X.reads.0 _ _ _ _ _ _ _ c.ends.result X.reads.1 c.in_ok-constituents.ensures (search rules) Y.reads X.reads.2 }
+    record { later = omega (arith, X.later, Y.later); reads = tagcase_ends (counts_in c.args.parent.now.scene) (expr_in c.args.parent.now.scene) (end_in c.args.parent.now.scene) (used c.args.enclosing.results) (used c.args.enclosing.names) (names_in c.args.parent.now.scene) c.args.parent.now.start c.args.self.now.at (context_in c.args.parent.now.scene) c.args.arms X.reads.0 _ _ _ _ _ _ _ c.ends.result X.reads.1 (c.in_ok-constituents.ensures _) (search rules) Y.reads X.reads.2 }
 
 pub end-returns-then-not-is_end : goal.end-returns-then-not-is_end
 end-returns-then-not-is_end t c =
@@ -229,7 +231,7 @@ end-returns-then-not-is_end t c =
 pub end_parts-returns-in-Iter : goal.end_parts-returns-in-Iter
 end_parts-returns-in-Iter t c =
     let R = c.asked.ensures in
-    record { later = R.later; reads = subst (λ h. EndPartsRead (counts_in c.args.scene.now) (used c.args.enclosing.results) h (end_parts_at (context_in c.args.scene.now) (expr_in c.args.scene.now) (end_in c.args.scene.now) h (used c.args.enclosing.results) (used c.args.enclosing.names) (names_in c.args.scene.now) c.args.start c.args.self.now.at) (vec_items c.args.self.now.nodes) (vec_items c.asked.new.self.nodes) c.asked.new.self.at c.asked.result) (sym c.in-Iter.is) (iter_asked (counts_in c.args.scene.now) (expr_in c.args.scene.now) (end_in c.args.scene.now) (used c.args.enclosing.results) (used c.args.enclosing.names) (names_in c.args.scene.now) c.args.start c.args.self.now.at _ _ _ c.asked.result R.reads) }
+    record { later = R.later; reads = subst (λ h. EndPartsRead (counts_in c.args.parent.now.scene) (used c.args.enclosing.results) h (end_parts_at (context_in c.args.parent.now.scene) (expr_in c.args.parent.now.scene) (end_in c.args.parent.now.scene) h (used c.args.enclosing.results) (used c.args.enclosing.names) (names_in c.args.parent.now.scene) c.args.parent.now.start c.args.self.now.at) (vec_items c.args.self.now.nodes) (vec_items c.asked.new.self.nodes) c.asked.new.self.at c.asked.result) (sym c.in-Iter.is) (iter_asked (counts_in c.args.parent.now.scene) (expr_in c.args.parent.now.scene) (end_in c.args.parent.now.scene) (used c.args.enclosing.results) (used c.args.enclosing.names) (names_in c.args.parent.now.scene) c.args.parent.now.start c.args.self.now.at _ _ _ c.asked.result R.reads) }
 
 pub asked-returns-then-eq : goal.asked-returns-then-eq
 asked-returns-then-eq t c =
@@ -238,17 +240,17 @@ asked-returns-then-eq t c =
     record { later = X.later; reads = (X.reads.0, X.reads.1 ∙ ap (λ z. accepted (typed X.reads.0 z) c.expr.new.self.at) (sym e), X.reads.2) }
 
 pub arms-loop-constituent-init : goal.arms-loop-constituent-init
-arms-loop-constituent-init t c = (omega arith, refl, arming_none (counts_in c.args.scene.now) (expr_in c.args.scene.now) (used c.args.constituents) (names_in c.args.scene.now) c.args.self.now.at (vec_items c.args.self.now.nodes) [])
+arms-loop-constituent-init t c = (omega arith, refl, arming_none (counts_in c.args.parent.now.scene) (expr_in c.args.parent.now.scene) (used c.args.constituents) (names_in c.args.parent.now.scene) c.args.self.now.at (vec_items c.args.self.now.nodes) [])
 
 pub arms-loop-constituent-preserved : goal.arms-loop-constituent-preserved
 arms-loop-constituent-preserved t c =
     let I = c.loop-constituent.invariant in
     let S = c.as_slice-constituent-items.ensures in
     let l : c.loop-constituent.constituent-index < length (used c.args.constituents) = subst (λ xs. c.loop-constituent.constituent-index < length xs) S c.loop-constituent-test.true in
-    let under = c.with.ensures ∙ ap (λ xs. (names_in c.args.scene.now) ++ get_or xs c.loop-constituent.constituent-index 0 ∷ []) S in
+    let under = c.with.ensures ∙ ap (λ xs. (names_in c.args.parent.now.scene) ++ get_or xs c.loop-constituent.constituent-index 0 ∷ []) S in
     let X = c.in_ok-types.ensures in
     let w = ap used c.unwrap_or-shared.ensures ∙ first_shared c.loop-constituent.first c.in_ok-types.types c.loop-constituent.constituent-index I.1 in
-    (omega (arith, I.0, X.later), sym (lt-ltb 0 (c.loop-constituent.constituent-index + 1) (omega arith)), arming_more (counts_in c.args.scene.now) (expr_in c.args.scene.now) (used c.args.constituents) (names_in c.args.scene.now) c.args.self.now.at (vec_items c.args.self.now.nodes) c.loop-constituent.constituent-index c.loop-constituent.agree _ _ _ c.loop-constituent.self.at _ X.reads.0 (shared c.loop-constituent.first) (used c.in_ok-types.types) (used c.unwrap_or-shared.result) I.2 l (ap (λ z. (expr_in c.args.scene.now) z c.loop-constituent.self.at) (sym under) ∙ X.reads.1) X.reads.2 X.reads.3 w (ap (λ b. c.loop-constituent.agree && b) (c.eq-agree.ensures ∙ pointwise_same (used c.unwrap_or-shared.result) (used c.in_ok-types.types))))
+    (omega (arith, I.0, X.later), sym (lt-ltb 0 (c.loop-constituent.constituent-index + 1) (omega arith)), arming_more (counts_in c.args.parent.now.scene) (expr_in c.args.parent.now.scene) (used c.args.constituents) (names_in c.args.parent.now.scene) c.args.self.now.at (vec_items c.args.self.now.nodes) c.loop-constituent.constituent-index c.loop-constituent.agree _ _ _ c.loop-constituent.self.at _ X.reads.0 (shared c.loop-constituent.first) (used c.in_ok-types.types) (used c.unwrap_or-shared.result) I.2 l (ap (λ z. (expr_in c.args.parent.now.scene) z c.loop-constituent.self.at) (sym under) ∙ X.reads.1) X.reads.2 X.reads.3 w (ap (λ b. c.loop-constituent.agree && b) (c.eq-agree.ensures ∙ pointwise_same (used c.unwrap_or-shared.result) (used c.in_ok-types.types))))
 
 pub arms-returns-in_err-types : goal.arms-returns-in_err-types
 arms-returns-in_err-types t c =
@@ -256,9 +258,9 @@ arms-returns-in_err-types t c =
     let I = c.loop-constituent.invariant in
     let S = c.as_slice-constituent-items.ensures in
     let l : c.loop-constituent.constituent-index < length (used c.args.constituents) = subst (λ xs. c.loop-constituent.constituent-index < length xs) S c.loop-constituent-test.true in
-    let under = c.with.ensures ∙ ap (λ xs. (names_in c.args.scene.now) ++ get_or xs c.loop-constituent.constituent-index 0 ∷ []) S in
+    let under = c.with.ensures ∙ ap (λ xs. (names_in c.args.parent.now.scene) ++ get_or xs c.loop-constituent.constituent-index 0 ∷ []) S in
     let B = c.in_err-types.ensures in
-    record { later = omega (arith, I.0, B.later); reads = rw (p.1, p.2) (arming_fails (counts_in c.args.scene.now) (expr_in c.args.scene.now) (used c.args.constituents) (names_in c.args.scene.now) c.args.self.now.at (vec_items c.args.self.now.nodes) c.args.start c.loop-constituent.constituent-index c.loop-constituent.agree _ c.loop-constituent.self.at (shared c.loop-constituent.first) _ I.2 l (subst (λ z. Declines ((expr_in c.args.scene.now) z c.loop-constituent.self.at) c.in_err-types.field-0.0) under B.reads)) }
+    record { later = omega (arith, I.0, B.later); reads = rw (p.1, p.2) (arming_fails (counts_in c.args.parent.now.scene) (expr_in c.args.parent.now.scene) (used c.args.constituents) (names_in c.args.parent.now.scene) c.args.self.now.at (vec_items c.args.self.now.nodes) c.args.parent.now.start c.loop-constituent.constituent-index c.loop-constituent.agree _ c.loop-constituent.self.at (shared c.loop-constituent.first) _ I.2 l (subst (λ z. Declines ((expr_in c.args.parent.now.scene) z c.loop-constituent.self.at) c.in_err-types.field-0.0) under B.reads)) }
 
 pub arms-returns-then-agree : goal.arms-returns-then-agree
 arms-returns-then-agree t c =
@@ -267,8 +269,8 @@ arms-returns-then-agree t c =
     let le : length (used c.args.constituents) ≤ c.loop-constituent.constituent-index = subst (λ xs. length xs ≤ c.loop-constituent.constituent-index) S c.loop-constituent-test.false in
     let ge : c.loop-constituent.constituent-index ≤ length (used c.args.constituents) = subst (λ xs. c.loop-constituent.constituent-index ≤ length xs) S c.loop-constituent.auto.constituent-index-end in
     let some : 1 ≤ c.loop-constituent.constituent-index = omega (arith, (members_few c.args.constituents).some) in
-    let all = subst (λ o. Arming (counts_in c.args.scene.now) (expr_in c.args.scene.now) (used c.args.constituents) (names_in c.args.scene.now) c.args.self.now.at (vec_items c.args.self.now.nodes) (shared o) c.loop-constituent.constituent-index true (vec_items c.loop-constituent.self.nodes) c.loop-constituent.self.at) c.in-Some.is (subst (λ b. Arming (counts_in c.args.scene.now) (expr_in c.args.scene.now) (used c.args.constituents) (names_in c.args.scene.now) c.args.self.now.at (vec_items c.args.self.now.nodes) (shared c.loop-constituent.first) c.loop-constituent.constituent-index b (vec_items c.loop-constituent.self.nodes) c.loop-constituent.self.at) c.if-agree.true I.2) in
-    record { later = I.0; reads = arming_done (counts_in c.args.scene.now) (expr_in c.args.scene.now) (used c.args.constituents) (names_in c.args.scene.now) c.args.self.now.at (vec_items c.args.self.now.nodes) c.args.start c.loop-constituent.constituent-index _ c.loop-constituent.self.at c.in-Some.types all le ge some }
+    let all = subst (λ o. Arming (counts_in c.args.parent.now.scene) (expr_in c.args.parent.now.scene) (used c.args.constituents) (names_in c.args.parent.now.scene) c.args.self.now.at (vec_items c.args.self.now.nodes) (shared o) c.loop-constituent.constituent-index true (vec_items c.loop-constituent.self.nodes) c.loop-constituent.self.at) c.in-Some.is (subst (λ b. Arming (counts_in c.args.parent.now.scene) (expr_in c.args.parent.now.scene) (used c.args.constituents) (names_in c.args.parent.now.scene) c.args.self.now.at (vec_items c.args.self.now.nodes) (shared c.loop-constituent.first) c.loop-constituent.constituent-index b (vec_items c.loop-constituent.self.nodes) c.loop-constituent.self.at) c.if-agree.true I.2) in
+    record { later = I.0; reads = arming_done (counts_in c.args.parent.now.scene) (expr_in c.args.parent.now.scene) (used c.args.constituents) (names_in c.args.parent.now.scene) c.args.self.now.at (vec_items c.args.self.now.nodes) c.args.parent.now.start c.loop-constituent.constituent-index _ c.loop-constituent.self.at c.in-Some.types all le ge some }
 
 pub arms-returns-else-agree : goal.arms-returns-else-agree
 arms-returns-else-agree t c =
@@ -277,8 +279,8 @@ arms-returns-else-agree t c =
     let le : length (used c.args.constituents) ≤ c.loop-constituent.constituent-index = subst (λ xs. length xs ≤ c.loop-constituent.constituent-index) S c.loop-constituent-test.false in
     let ge : c.loop-constituent.constituent-index ≤ length (used c.args.constituents) = subst (λ xs. c.loop-constituent.constituent-index ≤ length xs) S c.loop-constituent.auto.constituent-index-end in
     let some : 1 ≤ c.loop-constituent.constituent-index = omega (arith, (members_few c.args.constituents).some) in
-    let all = subst (λ b. Arming (counts_in c.args.scene.now) (expr_in c.args.scene.now) (used c.args.constituents) (names_in c.args.scene.now) c.args.self.now.at (vec_items c.args.self.now.nodes) (shared c.loop-constituent.first) c.loop-constituent.constituent-index b (vec_items c.loop-constituent.self.nodes) c.loop-constituent.self.at) c.if-agree.false I.2 in
-    record { later = I.0; reads = inr (arming_clash (counts_in c.args.scene.now) (expr_in c.args.scene.now) (used c.args.constituents) (names_in c.args.scene.now) c.args.self.now.at (vec_items c.args.self.now.nodes) c.args.start c.loop-constituent.constituent-index _ c.loop-constituent.self.at (shared c.loop-constituent.first) all le some) }
+    let all = subst (λ b. Arming (counts_in c.args.parent.now.scene) (expr_in c.args.parent.now.scene) (used c.args.constituents) (names_in c.args.parent.now.scene) c.args.self.now.at (vec_items c.args.self.now.nodes) (shared c.loop-constituent.first) c.loop-constituent.constituent-index b (vec_items c.loop-constituent.self.nodes) c.loop-constituent.self.at) c.if-agree.false I.2 in
+    record { later = I.0; reads = inr (arming_clash (counts_in c.args.parent.now.scene) (expr_in c.args.parent.now.scene) (used c.args.constituents) (names_in c.args.parent.now.scene) c.args.self.now.at (vec_items c.args.self.now.nodes) c.args.parent.now.start c.loop-constituent.constituent-index _ c.loop-constituent.self.at (shared c.loop-constituent.first) all le some) }
 
 pub ends-loop-constituent-init : goal.ends-loop-constituent-init
 ends-loop-constituent-init t c = (omega arith, ending_none (counts_in c.args.scene.now) (end_in c.args.scene.now) (used c.args.enclosing.results) (used c.args.enclosing.names) (used c.args.constituents) (names_in c.args.scene.now) c.args.self.now.at (vec_items c.args.self.now.nodes))
@@ -309,3 +311,25 @@ ends-returns t c =
     let le : length (used c.args.constituents) ≤ c.loop-constituent.constituent-index = subst (λ xs. length xs ≤ c.loop-constituent.constituent-index) S c.loop-constituent-test.false in
     let ge : c.loop-constituent.constituent-index ≤ length (used c.args.constituents) = subst (λ xs. c.loop-constituent.constituent-index ≤ length xs) S c.loop-constituent.auto.constituent-index-end in
     record { later = I.0; reads = ending_done (counts_in c.args.scene.now) (end_in c.args.scene.now) (used c.args.enclosing.results) (used c.args.enclosing.names) (used c.args.constituents) (names_in c.args.scene.now) c.args.self.now.at (vec_items c.args.self.now.nodes) c.loop-constituent.constituent-index _ c.loop-constituent.self.at I.1 le ge }
+
+pub forall-returns-in_err-scope : goal.forall-returns-in_err-scope
+forall-returns-in_err-scope t c =
+    let p = err_from_is_err_and c.from_residual-in_err-scope.result c.from_residual-in_err-scope.ensures.1 in
+    let X = c.in_ok-low.ensures in
+    let Y = c.in_ok-high.ensures in
+    record { later = omega (arith, X.later, Y.later); reads = rw (p.1, p.2) (forall_unbound (expr_in c.args.parent.now.scene) (names_in c.args.parent.now.scene) c.args.parent.now.start c.args.self.now.at c.args.merge c.args.part X.reads.0 Y.reads.0 _ _ _ _ _ _ X.reads.1 Y.reads.1 c.single.ensures (c.in_err-scope.ensures _)) }
+
+pub forall-returns-else-is_one : goal.forall-returns-else-is_one
+forall-returns-else-is_one t c =
+    let X = c.in_ok-low.ensures in
+    let Y = c.in_ok-high.ensures in
+    let Z = c.in_ok-types.ensures in
+    let one_low = same (1 ∷ []) (used c.in_ok-low.low) in
+    let one_high = same (1 ∷ []) (used c.in_ok-high.high) in
+    let one_part = same (c.args.part ∷ []) (used c.in_ok-types.types) in
+    let fails : (one_low && (one_high && one_part)) ≡ false = elim c.else-is_one.branch [
+      | forall-else-is_one-via-then-is_one+then-is_one-2+else-is_one-3 w ↦ fails_third one_low one_high one_part (sym w.is_one-then-is_one-2.ensures ∙ w.if-is_one-3.false)
+      | forall-else-is_one-via-then-is_one+else-is_one-2 w ↦ fails_second one_low one_high one_part (sym w.is_one-then-is_one.ensures ∙ w.if-is_one-2.false)
+      | forall-else-is_one-via-else-is_one w ↦ ap (λ b. b && (one_high && one_part)) (sym c.is_one.ensures ∙ w.if-is_one.false)
+    ] in
+    record { later = omega (arith, X.later, Y.later, Z.later); reads = inr (forall_clash (expr_in c.args.parent.now.scene) (names_in c.args.parent.now.scene) c.args.parent.now.start c.args.self.now.at c.args.merge c.args.part X.reads.0 Y.reads.0 Z.reads.0 _ _ _ _ _ _ _ _ X.reads.1 Y.reads.1 c.single.ensures (c.in_ok-scope.ensures _) Z.reads.1 fails) }

@@ -6,14 +6,13 @@ ghost use Rattle.language.specs.Sorts.{same, present, takes, gives, operand, res
 ghost use Rattle.language.specs.declared.node.One.TheVariants.{Unary as unary, Call as call, Record as record_of, Field as field_of, Union as union_of};
 ghost use Rattle.language.specs.declared.node.Two.TheVariants.{Binary as binary, Array as array_of, Element as element_at};
 ghost use Rattle.verdict.specs.Judging.{single as the_one, judge_one, judge_two, bound, arms_of};
-ghost use Rattle.module_check.specs.Views.{names, context_of, kind_of, end_kind_of};
-ghost use Rattle.module_check.specs.Reading.{Judged, Plain, TypesRead, Extended, UsesRead};
+ghost use Rattle.module_check.specs.Views.{names_in, context_in, kind_of, end_kind_of};
+ghost use Rattle.module_check.specs.Reading.{Judged, Extended};
 
 use crate::lists::{all_are, single};
-use crate::reader::Reader;
+use crate::parent::Parent;
 use crate::reader::heads::{element_of, fields_of, has_fault, tags_of};
 use crate::scope::Scope;
-use crate::tables::Tables;
 use language::{Binary, Block, End, Kind, Merge, One, Two, Unary};
 use values::{Members, Refusal, Types};
 use verdict::Head;
@@ -140,213 +139,152 @@ pub(crate) fn end_noted(head: Head, results: Members) -> Kind
     }
 }
 
-impl Reader {
-    fn unary_try(
-        tables: &Tables,
-        operation: Unary,
-        part: Members,
-        start: usize,
-    ) -> Result<Members, Refusal>
-        ensures { Judged (judge_one (context_of tables.now) (unary operation) (used part) start) result }
+impl Parent<'_> {
+    fn unary(&self, operation: Unary, part: Members) -> Result<Members, Refusal>
+        ensures { Judged (judge_one (context_in self.now.scene) (unary operation) (used part) self.now.start) result }
     {
-        let number = only(part).ok_or(Refusal::Clash(start))?;
-        if takes_operand(&tables.types, operation, number) {
+        let number = only(part).ok_or(Refusal::Clash(self.start))?;
+        if takes_operand(&self.scene.tables.types, operation, number) {
             Ok(single(gives_type(operation)))
         } else {
-            Err(Refusal::Clash(start))
+            Err(Refusal::Clash(self.start))
         }
     }
 
-    fn call(
-        &self,
-        tables: &Tables,
-        function: u8,
-        part: Members,
-        start: usize,
-    ) -> Result<Members, Refusal>
-        ensures { TypesRead (judge_one (context_of tables.now) (call function) (used part) start self.now.at) self.now.at result }
+    fn call(&self, function: u8, part: Members) -> Result<Members, Refusal>
+        ensures { Judged (judge_one (context_in self.now.scene) (call function) (used part) self.now.start) result }
     {
         let at = function as usize;
-        if at >= tables.functions.len() {
-            return Err(Refusal::Clash(start));
+        if at >= self.scene.tables.functions.len() {
+            return Err(Refusal::Clash(self.start));
         }
-        let callee = tables.functions[at];
+        let callee = self.scene.tables.functions[at];
         if callee.parameters == part {
             Ok(callee.results)
         } else {
-            Err(Refusal::Clash(start))
+            Err(Refusal::Clash(self.start))
         }
     }
 
-    fn record(
-        &self,
-        tables: &Tables,
-        number: u8,
-        part: Members,
-        start: usize,
-    ) -> Result<Members, Refusal>
-        ensures { TypesRead (judge_one (context_of tables.now) (record_of number) (used part) start self.now.at) self.now.at result }
+    fn record(&self, number: u8, part: Members) -> Result<Members, Refusal>
+        ensures { Judged (judge_one (context_in self.now.scene) (record_of number) (used part) self.now.start) result }
     {
-        let fields = fields_of(&tables.types, number).ok_or(Refusal::Clash(start))?;
+        let fields = fields_of(&self.scene.tables.types, number).ok_or(Refusal::Clash(self.start))?;
         if fields == part {
             Ok(single(number))
         } else {
-            Err(Refusal::Clash(start))
+            Err(Refusal::Clash(self.start))
         }
     }
 
-    fn field_try(
-        tables: &Tables,
-        field: u8,
-        part: Members,
-        start: usize,
-    ) -> Result<Members, Refusal>
-        ensures { Judged (judge_one (context_of tables.now) (field_of field) (used part) start) result }
+    fn field(&self, field: u8, part: Members) -> Result<Members, Refusal>
+        ensures { Judged (judge_one (context_in self.now.scene) (field_of field) (used part) self.now.start) result }
     {
-        let number = only(part).ok_or(Refusal::Clash(start))?;
-        let fields = fields_of(&tables.types, number).ok_or(Refusal::Clash(start))?;
-        let member = fields.get(field).ok_or(Refusal::Undeclared(start))?;
+        let number = only(part).ok_or(Refusal::Clash(self.start))?;
+        let fields = fields_of(&self.scene.tables.types, number).ok_or(Refusal::Clash(self.start))?;
+        let member = fields.get(field).ok_or(Refusal::Undeclared(self.start))?;
         Ok(single(member))
     }
 
-    fn union(
-        &self,
-        tables: &Tables,
-        number: u8,
-        tag: u8,
-        part: Members,
-        start: usize,
-    ) -> Result<Members, Refusal>
-        ensures { TypesRead (judge_one (context_of tables.now) (union_of number tag) (used part) start self.now.at) self.now.at result }
+    fn union(&self, number: u8, tag: u8, part: Members) -> Result<Members, Refusal>
+        ensures { Judged (judge_one (context_in self.now.scene) (union_of number tag) (used part) self.now.start) result }
     {
-        let constituents = tags_of(&tables.types, number).ok_or(Refusal::Clash(start))?;
-        let constituent = constituents.get(tag).ok_or(Refusal::Clash(start))?;
+        let types = &self.scene.tables.types;
+        let constituents = tags_of(types, number).ok_or(Refusal::Clash(self.start))?;
+        let constituent = constituents.get(tag).ok_or(Refusal::Clash(self.start))?;
         if is_one(constituent, part) {
             Ok(single(number))
         } else {
-            Err(Refusal::Clash(start))
+            Err(Refusal::Clash(self.start))
         }
     }
 
     // The types of a record with one part, whose values have these types.
-    pub(crate) fn judge_one(
-        &self,
-        tables: &Tables,
-        one: One,
-        part: Members,
-        start: usize,
-    ) -> Result<Members, Refusal>
-        ensures { TypesRead (judge_one (context_of tables.now) one (used part) start self.now.at) self.now.at result }
+    pub(crate) fn judge_one(&self, one: One, part: Members) -> Result<Members, Refusal>
+        ensures { Judged (judge_one (context_in self.now.scene) one (used part) self.now.start) result }
     {
         match one {
-            One::Unary(operation) => Reader::unary_try(tables, operation, part, start),
-            One::Call(function) => self.call(tables, function, part, start),
-            One::Record(number) => self.record(tables, number, part, start),
-            One::Field(field) => Reader::field_try(tables, field, part, start),
-            One::Union(number, tag) => self.union(tables, number, tag, part, start),
+            One::Unary(operation) => self.unary(operation, part),
+            One::Call(function) => self.call(function, part),
+            One::Record(number) => self.record(number, part),
+            One::Field(field) => self.field(field, part),
+            One::Union(number, tag) => self.union(number, tag, part),
         }
     }
 
-    fn binary(
-        &self,
-        tables: &Tables,
-        operation: Binary,
-        first: Members,
-        second: Members,
-        start: usize,
-    ) -> Result<Members, Refusal>
-        ensures { TypesRead (judge_two (context_of tables.now) (binary operation) (used first) (used second) start self.now.at) self.now.at result }
+    fn binary(&self, operation: Binary, first: Members, second: Members) -> Result<Members, Refusal>
+        ensures { Judged (judge_two (context_in self.now.scene) (binary operation) (used first) (used second) self.now.start) result }
     {
         let number = operand_type(operation);
         if is_one(number, first) && is_one(number, second) {
             Ok(single(result_type(operation)))
         } else {
-            Err(Refusal::Clash(start))
+            Err(Refusal::Clash(self.start))
         }
     }
 
-    fn array(
-        &self,
-        tables: &Tables,
-        number: u8,
-        low: Members,
-        elements: Members,
-        start: usize,
-    ) -> Result<Members, Refusal>
-        ensures { TypesRead (judge_two (context_of tables.now) (array_of number) (used low) (used elements) start self.now.at) self.now.at result }
+    fn array(&self, number: u8, low: Members, elements: Members) -> Result<Members, Refusal>
+        ensures { Judged (judge_two (context_in self.now.scene) (array_of number) (used low) (used elements) self.now.start) result }
     {
-        let element = element_of(&tables.types, number).ok_or(Refusal::Clash(start))?;
+        let types = &self.scene.tables.types;
+        let element = element_of(types, number).ok_or(Refusal::Clash(self.start))?;
         if is_one(1, low) && all_are(element, elements) {
             Ok(single(number))
         } else {
-            Err(Refusal::Clash(start))
+            Err(Refusal::Clash(self.start))
         }
     }
 
-    fn element(
-        &self,
-        tables: &Tables,
-        array: Members,
-        index: Members,
-        start: usize,
-    ) -> Result<Members, Refusal>
-        ensures { TypesRead (judge_two (context_of tables.now) element_at (used array) (used index) start self.now.at) self.now.at result }
+    fn element(&self, array: Members, index: Members) -> Result<Members, Refusal>
+        ensures { Judged (judge_two (context_in self.now.scene) element_at (used array) (used index) self.now.start) result }
     {
-        let number = only(array).ok_or(Refusal::Clash(start))?;
-        let element = element_of(&tables.types, number).ok_or(Refusal::Clash(start))?;
+        let number = only(array).ok_or(Refusal::Clash(self.start))?;
+        let types = &self.scene.tables.types;
+        let element = element_of(types, number).ok_or(Refusal::Clash(self.start))?;
         if is_one(1, index) {
             Ok(single(element))
         } else {
-            Err(Refusal::Clash(start))
+            Err(Refusal::Clash(self.start))
         }
     }
 
     // The types of a record with two parts, whose values have these types.
     pub(crate) fn judge_two(
         &self,
-        tables: &Tables,
         two: Two,
         first: Members,
         second: Members,
-        start: usize,
     ) -> Result<Members, Refusal>
-        ensures { TypesRead (judge_two (context_of tables.now) two (used first) (used second) start self.now.at) self.now.at result }
+        ensures { Judged (judge_two (context_in self.now.scene) two (used first) (used second) self.now.start) result }
     {
         match two {
-            Two::Binary(operation) => self.binary(tables, operation, first, second, start),
-            Two::Array(number) => self.array(tables, number, first, second, start),
-            Two::Element => self.element(tables, first, second, start),
+            Two::Binary(operation) => self.binary(operation, first, second),
+            Two::Array(number) => self.array(number, first, second),
+            Two::Element => self.element(first, second),
         }
     }
 
     // The types of the constituents of the union that a tagcase with so many arms tests.
-    pub(crate) fn arms_of(
-        &self,
-        tables: &Tables,
-        arms: u8,
-        test: Members,
-        start: usize,
-    ) -> Result<Members, Refusal>
-        ensures { TypesRead (arms_of (context_of tables.now) arms (used test) start self.now.at) self.now.at result }
+    pub(crate) fn arms_of(&self, arms: u8, test: Members) -> Result<Members, Refusal>
+        ensures { Judged (arms_of (context_in self.now.scene) arms (used test) self.now.start) result }
     {
-        let number = only(test).ok_or(Refusal::Clash(start))?;
-        let constituents = tags_of(&tables.types, number).ok_or(Refusal::Clash(start))?;
+        let number = only(test).ok_or(Refusal::Clash(self.start))?;
+        let types = &self.scene.tables.types;
+        let constituents = tags_of(types, number).ok_or(Refusal::Clash(self.start))?;
         if arms == constituents.count() {
             Ok(constituents)
         } else {
-            Err(Refusal::Clash(start))
+            Err(Refusal::Clash(self.start))
         }
     }
 
     // The scope with the names that the record at start binds.
-    pub(crate) fn extend(
-        &self,
-        scope: &Scope,
-        more: Members,
-        start: usize,
-    ) -> Result<Scope, Refusal>
-        ensures { Extended (bound (names scope.now) (used more) start self.now.at) self.now.at result }
+    pub(crate) fn extend(&self, more: Members) -> Result<Scope, Refusal>
+        ensures { Extended (bound (names_in self.now.scene) (used more) self.now.start) result }
     {
-        scope.with_all(more).ok_or(Refusal::Deep(start))
+        self.scene
+            .scope
+            .with_all(more)
+            .ok_or(Refusal::Deep(self.start))
     }
 }
