@@ -1,6 +1,6 @@
 use Rattle.std.proofs.Common.{vec_items, vec_len, inr, sym, ◌∙◌, arith}
 use Rattle.values.specs.Rows.{used}
-use Rattle.module_check.proofs.Facts.{nth_seen, nth_unseen}
+use Rattle.module_check.proofs.Facts.{nth_seen}
 use Rattle.module_check.proofs.Tests.{pointwise_same}
 use Rattle.module_check.proofs.parent.Parent.call.Goals as goal
 

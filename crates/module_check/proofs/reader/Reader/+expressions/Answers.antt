@@ -8,12 +8,11 @@ use Rattle.verdict.specs.Bodies.{head_at}
 use Rattle.verdict.specs.Outcomes.{accepted}
 use Rattle.verdict.specs.Judging.{typed}
 use Rattle.verdict.specs.Expressions.{parts_at, end_parts_at}
-use Rattle.verdict.proofs.Sames.{same_true}
 use Rattle.verdict.proofs.Members.{members_few}
 use Rattle.module_check.specs.Views.{context_in, counts_in, names_in, expr_in, end_in}
 use Rattle.module_check.specs.Reading.{Declines, PartsRead, EndRead, EndPartsRead}
 use Rattle.module_check.proofs.Tests.{pointwise_same}
-use Rattle.module_check.proofs.Steps.{closed, inside, expr_unread, expr_deep, expr_headless, expr_parts, end_unread, end_deep, end_headless, end_parts, end_done, leaf_read, one_judged, two_judged, if_read, let_body, tagcase_arms, for_read, forall_read, forall_unbound, forall_clash, fails_second, fails_third, iter_asked, if_end_read, let_end_body, tagcase_ends, done_asked}
+use Rattle.module_check.proofs.Steps.{closed, expr_unread, expr_deep, expr_headless, expr_parts, end_unread, end_deep, end_headless, end_parts, end_done, leaf_read, one_judged, two_judged, if_read, let_body, tagcase_arms, for_read, forall_read, forall_unbound, forall_clash, fails_second, fails_third, iter_asked, if_end_read, let_end_body, tagcase_ends, done_asked}
 use Rattle.module_check.proofs.Loops.{shared, first_shared, Listing, Arming, listing_none, listing_more, listing_fails, listing_clash, listing_done, arming_none, arming_more, arming_fails, arming_clash, arming_done, ending_none, ending_more, ending_fails, ending_done}
 use Rattle.module_check.proofs.reader.Reader.+expressions.Goals as goal
 use Rattle.module_check.proofs.reader.Reader.+expressions.Goals.{forall-else-is_one-via-then-is_one+then-is_one-2+else-is_one-3, forall-else-is_one-via-then-is_one+else-is_one-2, forall-else-is_one-via-else-is_one}
@@ -77,14 +76,6 @@ expr-returns-in_err-types t c =
     let pos : 0 < c.args.scene.now.room = omega arith in
     record { later = omega (arith, O.still, H.forward, B.later); reads = rw (p.1, p.2) (subst (λ o. Declines o c.in_err-types.field-0.0) (sym (expr_parts (context_in c.args.scene.now) c.args.scene.now.bytes.now (names_in c.args.scene.now) c.args.self.now.at c.args.scene.now.room _ _ _ _ pos c.in_ok-sort.ensures (ap (λ p. head_at (context_in c.args.scene.now) c.args.scene.now.bytes.now (names_in c.args.scene.now) c.in_ok-sort.sort p) (sym O.still) ∙ H.reads))) B.reads) }
 
-pub expr-close-requires : goal.expr-close-requires
-expr-close-requires t c =
-    let P = c.in_ok-types.ensures in
-    let O = c.in_ok-here.ensures in
-    let H = c.in_ok-head.ensures in
-    let grown = P.reads.4 ∙ ap (λ v. vec_items v ++ P.reads.1) H.kept in
-    inside O.opened.1.0 (vec_items c.args.self.now.nodes) (vec_items c.open.new.self.nodes) (vec_items c.parts.new.self.nodes) P.reads.1 c.in_ok-here.here _ O.opened.0 O.opened.1.1 grown c.parts.new.self.nodes.ok.0
-
 pub expr-returns : goal.expr-returns
 expr-returns t c =
     let P = c.in_ok-types.ensures in
@@ -129,14 +120,6 @@ end-returns-in_err-end_parts t c =
     let B = c.in_err-end_parts.ensures in
     let pos : 0 < c.args.scene.now.room = omega arith in
     record { later = omega (arith, O.still, H.forward, B.later); reads = rw (p.1, p.2) (subst (λ o. Declines o c.in_err-end_parts.field-0.0) (sym (end_parts (context_in c.args.scene.now) c.args.scene.now.bytes.now (names_in c.args.scene.now) c.args.self.now.at (used c.args.enclosing.results) (used c.args.enclosing.names) c.args.scene.now.room _ _ _ _ pos c.in_ok-sort.ensures (sym c.is_end.ensures ∙ c.if-not-is_end.false) (ap (λ p. head_at (context_in c.args.scene.now) c.args.scene.now.bytes.now (names_in c.args.scene.now) c.in_ok-sort.sort p) (sym O.still) ∙ H.reads))) B.reads) }
-
-pub end-close-requires : goal.end-close-requires
-end-close-requires t c =
-    let P = c.in_ok-end_parts.ensures in
-    let O = c.in_ok-here.ensures in
-    let H = c.in_ok-head.ensures in
-    let grown = P.reads.4 ∙ ap (λ v. vec_items v ++ P.reads.1) H.kept in
-    inside O.opened.1.0 (vec_items c.args.self.now.nodes) (vec_items c.open.new.self.nodes) (vec_items c.end_parts.new.self.nodes) P.reads.1 c.in_ok-here.here _ O.opened.0 O.opened.1.1 grown c.end_parts.new.self.nodes.ok.0
 
 pub end-returns : goal.end-returns
 end-returns t c =
@@ -232,12 +215,6 @@ pub end_parts-returns-in-Iter : goal.end_parts-returns-in-Iter
 end_parts-returns-in-Iter t c =
     let R = c.asked.ensures in
     record { later = R.later; reads = subst (λ h. EndPartsRead (counts_in c.args.parent.now.scene) (used c.args.enclosing.results) h (end_parts_at (context_in c.args.parent.now.scene) (expr_in c.args.parent.now.scene) (end_in c.args.parent.now.scene) h (used c.args.enclosing.results) (used c.args.enclosing.names) (names_in c.args.parent.now.scene) c.args.parent.now.start c.args.self.now.at) (vec_items c.args.self.now.nodes) (vec_items c.asked.new.self.nodes) c.asked.new.self.at c.asked.result) (sym c.in-Iter.is) (iter_asked (counts_in c.args.parent.now.scene) (expr_in c.args.parent.now.scene) (end_in c.args.parent.now.scene) (used c.args.enclosing.results) (used c.args.enclosing.names) (names_in c.args.parent.now.scene) c.args.parent.now.start c.args.self.now.at _ _ _ c.asked.result R.reads) }
-
-pub asked-returns-then-eq : goal.asked-returns-then-eq
-asked-returns-then-eq t c =
-    let X = c.in_ok-found.ensures in
-    let e : used c.args.types ≡ used c.in_ok-found.found = same_true _ _ (sym (c.eq.ensures ∙ pointwise_same (used c.args.types) (used c.in_ok-found.found)) ∙ c.if-eq.true) in
-    record { later = X.later; reads = (X.reads.0, X.reads.1 ∙ ap (λ z. accepted (typed X.reads.0 z) c.expr.new.self.at) (sym e), X.reads.2) }
 
 pub arms-loop-constituent-init : goal.arms-loop-constituent-init
 arms-loop-constituent-init t c = (omega arith, refl, arming_none (counts_in c.args.parent.now.scene) (expr_in c.args.parent.now.scene) (used c.args.constituents) (names_in c.args.parent.now.scene) c.args.self.now.at (vec_items c.args.self.now.nodes) [])

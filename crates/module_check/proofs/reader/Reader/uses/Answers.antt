@@ -8,17 +8,13 @@ use Rattle.verdict.proofs.Each.{Going, going_more}
 use Rattle.module_check.proofs.Facts.{zeros_next, going_declines, filled}
 use Rattle.module_check.proofs.reader.Reader.uses.Goals as goal
 
-pub returns-in_err-number : goal.returns-in_err-number
+pub returns-in_err-number-clause-reads : goal.returns-in_err-number-clause-reads
 unfolding uses_at
-returns-in_err-number c =
+returns-in_err-number-clause-reads c =
     let p = err_from_is_err_and c.from_residual.result c.from_residual.ensures.1 in
     let I = c.loop-i.invariant in
     let B = c.in_err-number.ensures in
-    record {
-      kept = B.kept ∙ I.0;
-      forward = omega (arith, I.1, B.forward);
-      reads = rw (p.1, p.2) (going_declines (λ (_ : Unit {0}) q. use_at (c.args.rows + 2) c.args.bytes.now q) (replicate c.args.n tt) c.args.self.now.at c.loop-i.i _ tt _ _ (omega (arith, length-replicate {A = Unit {0}} c.args.n tt)) B.reads I.4);
-    }
+    rw (p.1, p.2) (going_declines (λ (_ : Unit {0}) q. use_at (c.args.rows + 2) c.args.bytes.now q) (replicate c.args.n tt) c.args.self.now.at c.loop-i.i _ tt _ _ (omega (arith, length-replicate {A = Unit {0}} c.args.n tt)) B.reads I.4)
 
 pub loop-i-preserved : goal.loop-i-preserved
 loop-i-preserved c =
@@ -36,15 +32,11 @@ loop-i-preserved c =
           (going_more f (replicate c.args.n tt) c.args.self.now.at i c.loop-i.self.at c.type_use.new.self.at tt c.in_ok-number.number (take i xs) (omega (arith, length-replicate {A = Unit {0}} c.args.n tt)) N.reads I.4),
     )
 
-pub returns : goal.returns
+pub returns-clause-reads : goal.returns-clause-reads
 unfolding uses_at
-returns c =
+returns-clause-reads c =
     let I = c.loop-i.invariant in
     let M = c.in-Some.ensures in
     let f : Unit {0} → ℕ → Out ℕ = λ _ q. use_at (c.args.rows + 2) c.args.bytes.now q in
-    record {
-      kept = I.0;
-      forward = I.1;
-      reads = filled f c.args.n c.args.self.now.at c.loop-i.i c.loop-i.self.at c.loop-i.numbers c.in-Some.members
-          (omega arith) (omega arith) I.2 I.3 I.4 M.0 M.1;
-    }
+    filled f c.args.n c.args.self.now.at c.loop-i.i c.loop-i.self.at c.loop-i.numbers c.in-Some.members
+        (omega arith) (omega arith) I.2 I.3 I.4 M.0 M.1
