@@ -1,6 +1,6 @@
 -- What the answer of the check means.
-use Rattle.std.proofs.Common.{◌≡◌, ℕ, ◌<◌, ◌≤◌, cond, ◌⊎◌, List, length, Ok, Err, Result, sym, ap, ◌∙◌, inl, inr}
-use Rattle.std.proofs.lemmas.Bool.{le-leb, lt-leb}
+use Rattle.std.proofs.Common.{◌≡◌, ℕ, ◌≤◌, cond, ◌⊎◌, List, length, Ok, Err, Result, sym, ap, ◌∙◌, inl, inr}
+use Rattle.std.proofs.lemmas.Bool.{le-leb}
 use Rattle.values.specs.declared.refusal.Refusal.{Refusal}
 use Rattle.values.specs.declared.refusal.Refusal.TheVariants.{Memory, Oversize}
 use Rattle.language.specs.declared.program.Program.{Program}
@@ -16,9 +16,6 @@ use Rattle.module_check.specs.Checking.{Checked, Means}
 
 pub few_bytes : (bs : List ℕ) → length bs ≤ 16384 → verdict bs ≡ module_at bs
 few_bytes bs h = ap (λ b. cond b (module_at bs) (refused Oversize)) (le-leb (length bs) 16384 h)
-
-pub many_bytes : (bs : List ℕ) → 16384 < length bs → verdict bs ≡ refused Oversize
-many_bytes bs h = ap (λ b. cond b (module_at bs) (refused Oversize)) (lt-leb (length bs) 16384 h)
 
 pub passed : (bs : List ℕ) → Bytes bs → length bs ≤ 16384 → (m : Module) (q : ℕ) → module_at bs ≡ accepted m q → (verdict bs ≡ accepted m (length bs)) × WellTyped m
 passed bs bytes h m q e =

@@ -1,7 +1,8 @@
 -- The steps of reading: what a function has read where its parts were read.
-use Rattle.std.proofs.Common.{◌≡◌, ℕ, zero, suc, ◌+◌, ◌-◌, ◌<◌, Bool, true, false, cond, ◌&&◌, eqb, leb, List, [], ◌∷◌, ◌++◌, length, get_or, set, Some, Ok, Err, Result, sym, refl, ap, ◌∙◌, subst, ap₂, sub-one, arith, length-append}
+use Rattle.std.proofs.Common.{◌≡◌, ℕ, zero, suc, ◌+◌, ◌-◌, ◌<◌, ◌≤◌, Bool, true, false, cond, ◌&&◌, eqb, leb, List, [], ◌∷◌, ◌++◌, length, get_or, set, Some, Ok, Err, Result, sym, refl, ap, ◌∙◌, subst, ap₂, sub-one, arith, length-append}
 use Rattle.std.specs.List.{slice_get}
 use Rattle.std.proofs.lemmas.List.{append_assoc, append-nil, set_at}
+use Rattle.std.proofs.lemmas.Bool.Decides.{nat_tests}
 use Rattle.std.proofs.lemmas.Bool.{le-leb, true≢false}
 use Rattle.values.specs.declared.refusal.Refusal.{Refusal}
 use Rattle.values.specs.declared.members.Members.{Members}
@@ -34,7 +35,7 @@ use Rattle.verdict.specs.Expressions.{leaf_tree, one_tree, two_tree, Reads, Ends
 use Rattle.verdict.proofs.Spans.{after_inv, accepted_inv, judged_inv, found_inv, not_none}
 use Rattle.verdict.proofs.Sames.{same_refl, matches_inv, parameters_inv}
 use Rattle.verdict.proofs.Sound.{arms_inv, count_trees, count_these}
-use Rattle.module_check.specs.Reading.{Declines, Judged, ExprRead, PartsRead, ArmsRead, AskedRead, EndRead, EndPartsRead, EndsRead}
+use Rattle.module_check.specs.Reading.{Declines, Fit, Judged, ExprRead, PartsRead, ArmsRead, AskedRead, EndRead, EndPartsRead, EndsRead}
 use Rattle.module_check.proofs.Facts.{declines_after, judged_else}
 
 -- Nodes that grow.
@@ -51,11 +52,6 @@ closed k j l m n below here span o h p q w e =
     let sp : span ≡ length below + 1 = omega arith in
     let place : n ≡ l ++ (record { kind = j; span = 0 } ∷ below) = simp (q, p, append_assoc) in
     e ∙ (ap (λ z. set z here (record { kind = k; span = span })) place ∙ (set_at l (record { kind = j; span = 0 }) below (record { kind = k; span = span }) here (sym h) ∙ ap (λ z. l ++ (record { kind = k; span = z } ∷ below)) sp))
-
-pub inside : (j : Kind) (l m n below : List Node) (here len : ℕ) → here ≡ length l → m ≡ l ++ record { kind = j; span = 0 } ∷ [] → n ≡ m ++ below → len ≡ length n → here < len
-inside j l m n below here len h p q w =
-    let long : length n ≡ length l + (length below + 1) = simp (q, p, length-append) (omega arith) in
-    omega arith
 
 -- A record with room, and one without.
 module _ (C : Context) (bs Γ : List ℕ) (p : ℕ) where
@@ -99,6 +95,39 @@ module _ (C : Context) (bs Γ : List ℕ) (p : ℕ) where
 
     pub end_parts : (room q : ℕ) (k : Sort) (h : Head) (r : ℕ) → 0 < room → kind_at end_sorts bs p ≡ accepted k q → goes_on k ≡ true → head_at C bs Γ k p ≡ accepted h r → end C room bs ts again Γ p ≡ end_parts_at C (expr C (room - 1) bs) (end C (room - 1) bs) h ts again Γ p r
     end_parts room q k h r pos x g y = end_opens room q k pos x g ∙ ap (λ o. after o (λ f s. end_parts_at C (expr C (room - 1) bs) (end C (room - 1) bs) f ts again Γ p s)) y
+
+-- A list that was read has two to eight members.
+listed : (C : Context) (bs Γ : List ℕ) (p : ℕ) (k : Sort) (n q : ℕ) → head_at C bs Γ k p ≡ accepted (head.List n) q → (2 ≤ n) × (n ≤ 8)
+listed C bs Γ p sort.List n q e = grind (arith, nat_tests)
+listed C bs Γ p sort.Integer n q e = grind (arith, nat_tests)
+listed C bs Γ p sort.Boolean n q e = grind (arith, nat_tests)
+listed C bs Γ p sort.Error n q e = grind (arith, nat_tests)
+listed C bs Γ p sort.Name n q e = grind (arith, nat_tests)
+listed C bs Γ p sort.Operation n q e = grind (arith, nat_tests)
+listed C bs Γ p sort.If n q e = grind (arith, nat_tests)
+listed C bs Γ p sort.Let n q e = grind (arith, nat_tests)
+listed C bs Γ p sort.Tagcase n q e = grind (arith, nat_tests)
+listed C bs Γ p sort.For n q e = grind (arith, nat_tests)
+listed C bs Γ p sort.Iter n q e = grind (arith, nat_tests)
+listed C bs Γ p sort.Forall n q e = grind (arith, nat_tests)
+listed C bs Γ p sort.Call n q e = grind (arith, nat_tests)
+listed C bs Γ p sort.Record n q e = grind (arith, nat_tests)
+listed C bs Γ p sort.Field n q e = grind (arith, nat_tests)
+listed C bs Γ p sort.Union n q e = grind (arith, nat_tests)
+listed C bs Γ p sort.Array n q e = grind (arith, nat_tests)
+listed C bs Γ p sort.Element n q e = grind (arith, nat_tests)
+
+pub fit : (C : Context) (bs Γ : List ℕ) (p : ℕ) (k : Sort) (h : Head) (q : ℕ) → head_at C bs Γ k p ≡ accepted h q → Fit h
+fit C bs Γ p k (head.Leaf l t) q e = tt
+fit C bs Γ p k (head.One o) q e = tt
+fit C bs Γ p k (head.Two o) q e = tt
+fit C bs Γ p k (head.List n) q e = listed C bs Γ p k n q e
+fit C bs Γ p k head.If q e = tt
+fit C bs Γ p k head.Let q e = tt
+fit C bs Γ p k (head.Tagcase n) q e = tt
+fit C bs Γ p k (head.For m) q e = tt
+fit C bs Γ p k (head.Forall m t) q e = tt
+fit C bs Γ p k head.Iter q e = tt
 
 -- Leaves, and records with one part or two.
 leaf_noted : (counts : List ℕ) (l : Leaf) → flat counts (leaf_tree l) ≡ node (kind.Leaf l) []

@@ -12,7 +12,7 @@ use Rattle.verdict.proofs.Members.{members_few}
 use Rattle.module_check.specs.Views.{context_in, counts_in, names_in, expr_in, end_in}
 use Rattle.module_check.specs.Reading.{Declines, PartsRead, EndRead, EndPartsRead}
 use Rattle.module_check.proofs.Tests.{pointwise_same}
-use Rattle.module_check.proofs.Steps.{closed, expr_unread, expr_deep, expr_headless, expr_parts, end_unread, end_deep, end_headless, end_parts, end_done, leaf_read, one_judged, two_judged, if_read, let_body, tagcase_arms, for_read, forall_read, forall_unbound, forall_clash, fails_second, fails_third, iter_asked, if_end_read, let_end_body, tagcase_ends, done_asked}
+use Rattle.module_check.proofs.Steps.{fit, closed, expr_unread, expr_deep, expr_headless, expr_parts, end_unread, end_deep, end_headless, end_parts, end_done, leaf_read, one_judged, two_judged, if_read, let_body, tagcase_arms, for_read, forall_read, forall_unbound, forall_clash, fails_second, fails_third, iter_asked, if_end_read, let_end_body, tagcase_ends, done_asked}
 use Rattle.module_check.proofs.Loops.{shared, first_shared, Listing, Arming, listing_none, listing_more, listing_fails, listing_clash, listing_done, arming_none, arming_more, arming_fails, arming_clash, arming_done, ending_none, ending_more, ending_fails, ending_done}
 use Rattle.module_check.proofs.reader.Reader.+expressions.Goals as goal
 use Rattle.module_check.proofs.reader.Reader.+expressions.Goals.{forall-else-is_one-via-then-is_one+then-is_one-2+else-is_one-3, forall-else-is_one-via-then-is_one+else-is_one-2, forall-else-is_one-via-else-is_one}
@@ -310,3 +310,7 @@ forall-returns-else-is_one t c =
       | forall-else-is_one-via-else-is_one w ↦ ap (λ b. b && (one_high && one_part)) (sym c.is_one.ensures ∙ w.if-is_one.false)
     ] in
     record { later = omega (arith, X.later, Y.later, Z.later); reads = inr (forall_clash (expr_in c.args.parent.now.scene) (names_in c.args.parent.now.scene) c.args.parent.now.start c.args.self.now.at c.args.merge c.args.part X.reads.0 Y.reads.0 Z.reads.0 _ _ _ _ _ _ _ _ X.reads.1 Y.reads.1 c.single.ensures (c.in_ok-scope.ensures _) Z.reads.1 fails) }
+
+pub expr-parts-requires : goal.expr-parts-requires
+expr-parts-requires t c =
+    (search rules, fit (context_in c.args.scene.now) c.args.scene.now.bytes.now (names_in c.args.scene.now) c.open.new.self.at c.in_ok-sort.sort c.in_ok-head.head _ c.in_ok-head.ensures.reads)

@@ -17,7 +17,7 @@ returns-in_err-function-clause-reads c =
     let I = c.loop.invariant in
     let B = c.in_err-function.ensures in
     rw (p.1, p.2) (defining_fails c.args.count (rows_of c.args.tables.now.types) c.args.bytes.now c.args.self.now.at c.loop.counter _ _ _ _ I.1 c.loop-test.true
-        (subst (λ z. Declines (function_at (context (rows_of z) (seen_all (vec_items c.loop.tables.functions))) c.args.bytes.now c.loop.self.at) c.in_err-function.field-0.0) I.0 B.reads))
+    (subst (λ z. Declines (function_at (context (rows_of z) (seen_all (vec_items c.loop.tables.functions))) c.args.bytes.now c.loop.self.at) c.in_err-function.field-0.0) I.0 B.reads))
 
 pub loop-preserved : goal.loop-preserved
 loop-preserved c =

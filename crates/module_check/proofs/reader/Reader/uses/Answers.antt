@@ -39,4 +39,4 @@ returns-clause-reads c =
     let M = c.in-Some.ensures in
     let f : Unit {0} → ℕ → Out ℕ = λ _ q. use_at (c.args.rows + 2) c.args.bytes.now q in
     filled f c.args.n c.args.self.now.at c.loop-i.i c.loop-i.self.at c.loop-i.numbers c.in-Some.members
-        (omega arith) (omega arith) I.2 I.3 I.4 M.0 M.1
+    (omega arith) (omega arith) I.2 I.3 I.4 M.0 M.1
