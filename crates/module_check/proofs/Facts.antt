@@ -1,8 +1,8 @@
 -- Facts on lists of types that the reading functions share.
-use Rattle.std.proofs.Common.{◌≡◌, ℕ, ◌+◌, ◌-◌, ◌<◌, ◌≤◌, Bool, true, false, ◌&&◌, List, [], ◌∷◌, ◌++◌, length, get_or, take, drop, set, replicate, Some, sym, refl, ap, ◌∙◌, ap₂, inl, inr, arith}
+use Rattle.std.proofs.Common.{◌≡◌, ℕ, ◌-◌, ◌<◌, ◌≤◌, Bool, true, false, ◌&&◌, List, [], ◌∷◌, ◌++◌, length, get_or, take, drop, replicate, Some, sym, refl, ap, ◌∙◌, ap₂, inl, inr, arith}
 use lib.ListN.{length-replicate}
 use Rattle.std.specs.List.{slice_get}
-use Rattle.std.proofs.lemmas.List.{drop-drop, drop-replicate, drop-set-lt, take-append-drop, length-map, get_or-map}
+use Rattle.std.proofs.lemmas.List.{take_at, take_all, drop-replicate, length-map, get_or-map}
 use Rattle.std.proofs.lemmas.Option.{slice_get-get_or, slice_get_read}
 use Rattle.std.proofs.lemmas.Bool.Decides.{nat_tests}
 use Rattle.language.specs.Sorts.{same}
@@ -31,12 +31,6 @@ every_append : (t : ℕ) (xs ys : List ℕ) → every t (xs ++ ys) ≡ (every t 
 every_append t [] ys = refl
 every_append t (x ∷ xs) ys = let h = every_append t xs ys in grind (arith, nat_tests)
 
--- Places of zeros that are filled from the front.
-pub zeros_next : (xs : List ℕ) (i y : ℕ) → drop i xs ≡ replicate (8 - i) 0 → drop (i + 1) (set xs i y) ≡ replicate (8 - (i + 1)) 0
-zeros_next xs i y h =
-    let e : 8 - i - 1 ≡ 8 - (i + 1) = omega arith in
-    drop-set-lt (i + 1) xs i y (omega arith) ∙ (sym (drop-drop 1 i xs) ∙ (ap (drop 1) h ∙ (drop-replicate 1 (8 - i) 0 ∙ ap (λ n. replicate n 0) e)))
-
 pub nth_is : (xs : List ℕ) (i x : ℕ) → i < length xs → Some x ≡ slice_get xs i → get_or xs i 0 ≡ x
 nth_is xs i x l e = let h = slice_get-get_or xs i 0 l in cc
 
@@ -62,15 +56,13 @@ judged_else {A} {B} {D} o v test f g e (inr h) = inr (go o h)
     go (accepted a q) h = tested (test a) (f a) (g a) q h
     go (refused w) h = ap refused (let i : w ≡ e = cc in i)
 
--- Places that are filled up to a count are members, and what was read.
-pub filled : (f : Unit {0} → ℕ → Out ℕ) (n start i place : ℕ) (numbers : List ℕ) (m : Members) → n ≤ i → i ≤ n → length numbers ≡ 8 → drop i numbers ≡ replicate (8 - i) 0 → Going f (replicate n tt) start i (take i numbers) place → m.numbers ≡ numbers → m.count ≡ n → (each f (replicate n tt) start ≡ accepted (used m) place) × (m ≡ members_of (used m))
-filled f n start i place numbers m below above long zeros g e d =
-    let same_count : i ≡ m.count = omega (arith, d) in
-    let front : take i numbers ≡ used m = ap₂ take same_count (sym e) in
-    let read = going_all f (replicate n tt) start i place (take i numbers) (omega (arith, length-replicate {A = Unit {0}} n tt)) g in
-    let whole : numbers ≡ take i numbers ++ replicate (8 - i) 0 = sym (take-append-drop i numbers) ∙ ap (λ z. take i numbers ++ z) zeros in (
-      read ∙ ap (λ z. accepted z place) front,
-      sym (members_zeroed m (e ∙ (whole ∙ ap₂ (λ a k. a ++ replicate (8 - k) 0) front same_count))),
+-- Places that are filled up to a count, with zeros behind, are members, and what was read.
+pub filled : (f : Unit {0} → ℕ → Out ℕ) (n start i place : ℕ) (items : List ℕ) (m : Members) → n ≤ i → i ≤ n → length items ≡ n → Going f (replicate n tt) start i (take i items) place → m.numbers ≡ items ++ drop n (replicate 8 0) → m.count ≡ n → (each f (replicate n tt) start ≡ accepted (used m) place) × (m ≡ members_of (used m))
+filled f n start i place items m below above long g e d =
+    let front : items ≡ used m = sym (take_at items (drop n (replicate 8 0)) n long) ∙ ap₂ take (sym d) (sym e) in
+    let read = going_all f (replicate n tt) start i place (take i items) (omega (arith, length-replicate {A = Unit {0}} n tt)) g in (
+      read ∙ ap (λ z. accepted z place) (take_all i items (omega arith) ∙ front),
+      sym (members_zeroed m (e ∙ (ap (λ z. items ++ z) (drop-replicate n 8 0) ∙ ap₂ (λ a k. a ++ replicate (8 - k) 0) front (sym d)))),
     )
 
 -- What callers see of a function at a place.

@@ -87,9 +87,8 @@ impl Reader {
         ensures reads { UsesRead (uses_at n (rows + 2) bytes.now self.old.at) self.new.at result }
     {
         let mut numbers = [0; 8];
-        for i in 0..n {
-            let number = self.type_use(bytes, rows)?;
-            numbers[i as usize] = number;
+        for number in &mut numbers[..n as usize] {
+            *number = self.type_use(bytes, rows)?;
         }
         match Members::new(numbers, n) {
             Some(members) => Ok(members),
