@@ -1,7 +1,7 @@
 -- Loops over members, arms and ends: what has been read so far.
 use Rattle.std.proofs.Common.{◌≡◌, ℕ, zero, suc, ◌+◌, ◌<◌, ◌≤◌, Bool, true, false, cond, ◌&&◌, eqb, List, [], ◌∷◌, ◌++◌, length, get_or, take, set, replicate, Some, None, Ok, Option, is_some, ltb, sym, refl, ap, ◌∙◌, ap₂, arith}
 use lib.ListN.{length-replicate}
-use Rattle.std.proofs.lemmas.List.{append_assoc, append-nil, length_push, take_more_set}
+use Rattle.std.proofs.lemmas.List.{take_all, take_at, append_assoc, append-nil, length_push, take_more_set}
 use Rattle.std.proofs.lemmas.Bool.Decides.{nat_tests}
 use Rattle.std.proofs.lemmas.Bool.{ne_eqb, lt-ltb, false≢true}
 use Rattle.std.specs.Option.{unwrap_or}
@@ -98,13 +98,12 @@ module _ (counts : List ℕ) (ex : Reads) (Γ : List ℕ) (n start : ℕ) (befor
       let f = sym L.4 in
       rw (m, f)
 
-  pub listing_done : (p i : ℕ) (numbers : List ℕ) (nodes : List Node) (place : ℕ) (m : Members) → Listing counts ex Γ n start before i numbers true nodes place → n ≤ i → i ≤ n → m.numbers ≡ numbers → m.count ≡ n → PartsRead counts (head.List n) (list_at ex n Γ p start) before nodes place (Ok m)
+  pub listing_done : (p i : ℕ) (numbers : List ℕ) (nodes : List Node) (place : ℕ) (rest : List ℕ) (m : Members) → Listing counts ex Γ n start before i numbers true nodes place → n ≤ i → i ≤ n → length numbers ≡ n → m.numbers ≡ numbers ++ rest → m.count ≡ n → PartsRead counts (head.List n) (list_at ex n Γ p start) before nodes place (Ok m)
   unfolding flat arity
-  listing_done p i numbers nodes place m L le ge e d =
+  listing_done p i numbers nodes place rest m L le ge long e d =
       let a = members_are i numbers true nodes place L le in
       let f = sym L.4 in
-      let same_i : i ≡ m.count = omega (arith, d) in
-      let u : firsts L.0 ≡ used m = sym L.5 ∙ ap₂ take same_i (sym e) in
+      let u : firsts L.0 ≡ used m = sym L.5 ∙ (take_all i numbers (omega arith) ∙ (sym (take_at numbers rest m.count (omega (arith, d))) ∙ ap (take m.count) (sym e))) in
       let c : count (trees L.0) ≡ n = count_trees L.0 ∙ omega (arith, L.3) in (
         list (trees L.0),
         flat_all counts (trees L.0),

@@ -115,10 +115,10 @@ impl Reader {
     {
         let mut numbers = [0; 8];
         let mut singles = true;
-        for i in 0..members {
+        for number in &mut numbers[..members as usize] {
             let part = self.expr(&parent.scene)?;
             singles &= is_single(part);
-            numbers[i as usize] = lead(part);
+            *number = lead(part);
         }
         if !singles {
             return Err(Refusal::Clash(parent.start));

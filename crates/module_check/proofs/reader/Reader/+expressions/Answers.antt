@@ -1,4 +1,4 @@
-use Rattle.std.proofs.Common.{◌≡◌, true, false, ◌+◌, ◌-◌, ◌<◌, ◌≤◌, ◌&&◌, [], ◌∷◌, ◌++◌, length, get_or, replicate, Ok, vec_items, sym, refl, inr, ap, ◌∙◌, subst, arith, length-set, rules}
+use Rattle.std.proofs.Common.{◌≡◌, ℕ, true, false, ◌+◌, ◌-◌, ◌<◌, ◌≤◌, ◌&&◌, [], ◌∷◌, ◌++◌, length, get_or, take, replicate, Ok, vec_items, sym, refl, inr, ap, ◌∙◌, subst, arith, length-set, length-take, rules}
 use Rattle.std.proofs.lemmas.Result.{err_from_is_err_and}
 use Rattle.std.proofs.lemmas.Bool.{lt-ltb}
 use Rattle.values.specs.Rows.{used}
@@ -139,36 +139,36 @@ end-returns t c =
       );
     }
 
-pub list-loop-i-init : goal.list-loop-i-init
-list-loop-i-init t c =
-    (omega arith, refl, listing_none (counts_in c.args.parent.now.scene) (expr_in c.args.parent.now.scene) (names_in c.args.parent.now.scene) c.args.members c.args.self.now.at (vec_items c.args.self.now.nodes) (replicate 8 0))
+pub list-loop-number-init : goal.list-loop-number-init
+list-loop-number-init t c =
+    (omega arith, omega (arith, length-take {A = ℕ} c.args.members (replicate 8 0), c.requires.1), listing_none (counts_in c.args.parent.now.scene) (expr_in c.args.parent.now.scene) (names_in c.args.parent.now.scene) c.args.members c.args.self.now.at (vec_items c.args.self.now.nodes) (take c.args.members (replicate 8 0)))
 
-pub list-loop-i-preserved : goal.list-loop-i-preserved
-list-loop-i-preserved t c =
-    let I = c.loop-i.invariant in
+pub list-loop-number-preserved : goal.list-loop-number-preserved
+list-loop-number-preserved t c =
+    let I = c.loop-number.invariant in
     let X = c.in_ok-part.ensures in
-    let l : c.loop-i.i < length c.loop-i.numbers = omega (arith, I.1, c.requires.1) in
-    (omega (arith, I.0, X.later), length-set c.loop-i.numbers c.loop-i.i c.lead.result ∙ I.1, listing_more (counts_in c.args.parent.now.scene) (expr_in c.args.parent.now.scene) (names_in c.args.parent.now.scene) c.args.members c.args.self.now.at (vec_items c.args.self.now.nodes) c.loop-i.i c.loop-i.numbers c.loop-i.singles _ _ _ c.loop-i.self.at _ c.lead.result X.reads.0 _ I.2 c.loop-i-test.true l X.reads.1 X.reads.2 (ap (λ b. c.loop-i.singles && b) c.is_single-singles.ensures) c.lead.ensures)
+    let l : c.loop-number.number-index < length c.loop-number.number-items = omega (arith, c.loop-number.auto.number-items) in
+    (omega (arith, I.0, X.later), length-set c.loop-number.number-items c.loop-number.number-index c.lead.result ∙ I.1, listing_more (counts_in c.args.parent.now.scene) (expr_in c.args.parent.now.scene) (names_in c.args.parent.now.scene) c.args.members c.args.self.now.at (vec_items c.args.self.now.nodes) c.loop-number.number-index c.loop-number.number-items c.loop-number.singles _ _ _ c.loop-number.self.at _ c.lead.result X.reads.0 _ I.2 (omega (arith, I.1, c.loop-number.auto.number-items)) l X.reads.1 X.reads.2 (ap (λ b. c.loop-number.singles && b) c.is_single-singles.ensures) c.lead.ensures)
 
 pub list-returns-in_err-part : goal.list-returns-in_err-part
 list-returns-in_err-part t c =
     let p = err_from_is_err_and c.from_residual.result c.from_residual.ensures.1 in
-    let I = c.loop-i.invariant in
+    let I = c.loop-number.invariant in
     let B = c.in_err-part.ensures in
-    record { later = omega (arith, I.0, B.later); reads = rw (p.1, p.2) (listing_fails (counts_in c.args.parent.now.scene) (expr_in c.args.parent.now.scene) (names_in c.args.parent.now.scene) c.args.members c.args.self.now.at (vec_items c.args.self.now.nodes) c.args.parent.now.start c.loop-i.i c.loop-i.numbers c.loop-i.singles _ c.loop-i.self.at _ I.2 c.loop-i-test.true B.reads) }
+    record { later = omega (arith, I.0, B.later); reads = rw (p.1, p.2) (listing_fails (counts_in c.args.parent.now.scene) (expr_in c.args.parent.now.scene) (names_in c.args.parent.now.scene) c.args.members c.args.self.now.at (vec_items c.args.self.now.nodes) c.args.parent.now.start c.loop-number.number-index c.loop-number.number-items c.loop-number.singles _ c.loop-number.self.at _ I.2 (omega (arith, I.1, c.loop-number.auto.number-items)) B.reads) }
 
 pub list-returns-then-not-singles : goal.list-returns-then-not-singles
 list-returns-then-not-singles t c =
-    let I = c.loop-i.invariant in
+    let I = c.loop-number.invariant in
     let f = c.if-not-singles.true in
-    record { later = I.0; reads = inr (listing_clash (counts_in c.args.parent.now.scene) (expr_in c.args.parent.now.scene) (names_in c.args.parent.now.scene) c.args.members c.args.self.now.at (vec_items c.args.self.now.nodes) c.args.parent.now.start c.loop-i.i c.loop-i.numbers _ c.loop-i.self.at (subst (λ b. Listing (counts_in c.args.parent.now.scene) (expr_in c.args.parent.now.scene) (names_in c.args.parent.now.scene) c.args.members c.args.self.now.at (vec_items c.args.self.now.nodes) c.loop-i.i c.loop-i.numbers b (vec_items c.loop-i.self.nodes) c.loop-i.self.at) f I.2) c.loop-i-test.false) }
+    record { later = I.0; reads = inr (listing_clash (counts_in c.args.parent.now.scene) (expr_in c.args.parent.now.scene) (names_in c.args.parent.now.scene) c.args.members c.args.self.now.at (vec_items c.args.self.now.nodes) c.args.parent.now.start c.loop-number.number-index c.loop-number.number-items _ c.loop-number.self.at (subst (λ b. Listing (counts_in c.args.parent.now.scene) (expr_in c.args.parent.now.scene) (names_in c.args.parent.now.scene) c.args.members c.args.self.now.at (vec_items c.args.self.now.nodes) c.loop-number.number-index c.loop-number.number-items b (vec_items c.loop-number.self.nodes) c.loop-number.self.at) f I.2) (omega (arith, I.1, c.loop-number.auto.number-items))) }
 
 pub list-returns : goal.list-returns
 list-returns t c =
-    let I = c.loop-i.invariant in
+    let I = c.loop-number.invariant in
     let M = c.in-Some.ensures in
     let f = c.if-not-singles.false in
-    record { later = I.0; reads = listing_done (counts_in c.args.parent.now.scene) (expr_in c.args.parent.now.scene) (names_in c.args.parent.now.scene) c.args.members c.args.self.now.at (vec_items c.args.self.now.nodes) c.args.parent.now.start c.loop-i.i c.loop-i.numbers _ c.loop-i.self.at c.in-Some.types (subst (λ b. Listing (counts_in c.args.parent.now.scene) (expr_in c.args.parent.now.scene) (names_in c.args.parent.now.scene) c.args.members c.args.self.now.at (vec_items c.args.self.now.nodes) c.loop-i.i c.loop-i.numbers b (vec_items c.loop-i.self.nodes) c.loop-i.self.at) f I.2) c.loop-i-test.false c.loop-i.auto.i-end M.0 M.1 }
+    record { later = I.0; reads = listing_done (counts_in c.args.parent.now.scene) (expr_in c.args.parent.now.scene) (names_in c.args.parent.now.scene) c.args.members c.args.self.now.at (vec_items c.args.self.now.nodes) c.args.parent.now.start c.loop-number.number-index c.loop-number.number-items _ c.loop-number.self.at _ c.in-Some.types (subst (λ b. Listing (counts_in c.args.parent.now.scene) (expr_in c.args.parent.now.scene) (names_in c.args.parent.now.scene) c.args.members c.args.self.now.at (vec_items c.args.self.now.nodes) c.loop-number.number-index c.loop-number.number-items b (vec_items c.loop-number.self.nodes) c.loop-number.self.at) f I.2) (omega (arith, I.1, c.loop-number.auto.number-items)) (omega (arith, I.1, c.loop-number.auto.number-items, c.loop-number.auto.number-index-end)) I.1 M.0 M.1 }
 
 pub one-returns : goal.one-returns
 one-returns t c =

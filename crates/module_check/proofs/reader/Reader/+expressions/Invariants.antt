@@ -61,10 +61,10 @@ abbrev pub decreases-two : goal.decreases-two
 decreases-two l = 8 * (length l.parent.now.scene.bytes.now - l.self.now.at) + 6
 
 -- What the loops have read.
-abbrev pub invariant-list-loop-i : goal.invariant-list-loop-i
-invariant-list-loop-i l =
-    (l.initial.self.at ≤ l.self.at) × (length l.numbers ≡ 8)
-    × Listing (counts_in l.parent.scene) (expr_in l.parent.scene) (names_in l.parent.scene) l.members l.initial.self.at (vec_items l.initial.self.nodes) l.i l.numbers l.singles (vec_items l.self.nodes) l.self.at
+abbrev pub invariant-list-loop-number : goal.invariant-list-loop-number
+invariant-list-loop-number l =
+    (l.initial.self.at ≤ l.self.at) × (length l.number-items ≡ l.members)
+    × Listing (counts_in l.parent.scene) (expr_in l.parent.scene) (names_in l.parent.scene) l.members l.initial.self.at (vec_items l.initial.self.nodes) l.number-index l.number-items l.singles (vec_items l.self.nodes) l.self.at
 
 abbrev pub invariant-arms-loop-constituent : goal.invariant-arms-loop-constituent
 invariant-arms-loop-constituent l =
