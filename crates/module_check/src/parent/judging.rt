@@ -154,11 +154,10 @@ impl Parent<'_> {
     fn call(&self, function: u8, part: Members) -> Result<Members, Refusal>
         ensures { Judged (judge_one (context_in self.now.scene) (call function) (used part) self.now.start) result }
     {
-        let at = function as usize;
-        if at >= self.scene.tables.functions.len() {
-            return Err(Refusal::Clash(self.start));
-        }
-        let callee = self.scene.tables.functions[at];
+        let functions = &self.scene.tables.functions;
+        let callee = functions
+            .get(function as usize)
+            .ok_or(Refusal::Clash(self.start))?;
         if callee.parameters == part {
             Ok(callee.results)
         } else {

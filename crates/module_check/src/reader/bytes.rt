@@ -90,9 +90,9 @@ impl Reader {
         for number in &mut numbers[..n as usize] {
             *number = self.type_use(bytes, rows)?;
         }
-        match Members::new(numbers, n) {
-            Some(members) => Ok(members),
-            None => unreachable(),
-        }
+        let Some(members) = Members::new(numbers, n) else {
+            unreachable()
+        };
+        Ok(members)
     }
 }

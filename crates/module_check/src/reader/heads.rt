@@ -1,8 +1,9 @@
-ghost use Rattle.std.specs.Prelude.{◌≡◌, ◌+◌, ◌<◌, length, slice_index};
+ghost use Rattle.std.specs.Prelude.{◌≡◌, ◌+◌, ◌<◌, true, false, length, slice_index, MatchResult};
 ghost use Rattle.values.specs.Tables.{rows_of};
+ghost use Rattle.values.specs.declared.refusal.Refusal.TheVariants.{Undeclared};
 ghost use Rattle.verdict.specs.Outcomes.{lookup};
 ghost use Rattle.verdict.specs.Bodies.{operations, operators, number_from, fault_if, list_head, integer_head, boolean_head, error_head, name_head, operation_head, tagcase_head, for_head, forall_head, call_head, record_head, field_head, union_head, array_head, head_at};
-ghost use Rattle.language.specs.Sorts.{has_fault, element_of, fields_of, tags_of, element_in, fields_in, tags_in};
+ghost use Rattle.language.specs.Sorts.{declared, has_fault, element_of, fields_of, tags_of, element_in, fields_in, tags_in};
 ghost use Rattle.numbers.specs.Faults.{of_code};
 ghost use Rattle.module_check.specs.Views.{rows_in, context_in, names_in};
 ghost use Rattle.module_check.specs.Reading.{Taken, Listed};
@@ -124,6 +125,17 @@ pub(crate) fn tags_of(types: &Types, number: u8) -> Option<Members>
     }
 }
 
+// A type that the record at start names must be there.
+fn declared(scene: &Scene, number: u8, start: usize) -> Result<(), Refusal>
+    ensures { MatchResult result (λ _. declared (rows_in scene.now) number ≡ true) (λ e. (declared (rows_in scene.now) number ≡ false) × (e ≡ Undeclared start)) }
+{
+    if is_declared(number, scene.tables.types.len()) {
+        Ok(())
+    } else {
+        Err(Refusal::Undeclared(start))
+    }
+}
+
 impl Reader {
     fn list_head(&mut self, bytes: &[u8]) -> Result<Head, Refusal>
         ensures { Taken (list_head bytes.now self.old.at) self.old self.new result }
@@ -162,9 +174,7 @@ impl Reader {
     {
         let start = self.at;
         let [code, number] = self.body::<2>(scene.bytes)?;
-        if !is_declared(number, scene.tables.types.len()) {
-            return Err(Refusal::Undeclared(start));
-        }
+        declared(scene, number, start)?;
         let fault = fault_of(number, code).ok_or(Refusal::Clash(start))?;
         Ok(Head::Leaf(Leaf::Error(fault, number), number))
     }
@@ -200,9 +210,7 @@ impl Reader {
         let start = self.at;
         let [operator, number] = self.body::<2>(scene.bytes)?;
         if operator == 0 {
-            if !is_declared(number, scene.tables.types.len()) {
-                return Err(Refusal::Undeclared(start));
-            }
+            declared(scene, number, start)?;
             let element = element_of(&scene.tables.types, number).ok_or(Refusal::Clash(start))?;
             return Ok(Head::Forall(Merge::Collect(number), element));
         }
@@ -229,9 +237,7 @@ impl Reader {
     {
         let start = self.at;
         let [number] = self.body::<1>(scene.bytes)?;
-        if !is_declared(number, scene.tables.types.len()) {
-            return Err(Refusal::Undeclared(start));
-        }
+        declared(scene, number, start)?;
         fields_of(&scene.tables.types, number).ok_or(Refusal::Clash(start))?;
         Ok(Head::One(One::Record(number)))
     }
@@ -248,9 +254,7 @@ impl Reader {
     {
         let start = self.at;
         let [number, tag] = self.body::<2>(scene.bytes)?;
-        if !is_declared(number, scene.tables.types.len()) {
-            return Err(Refusal::Undeclared(start));
-        }
+        declared(scene, number, start)?;
         let constituents = tags_of(&scene.tables.types, number).ok_or(Refusal::Clash(start))?;
         constituents.get(tag).ok_or(Refusal::Undeclared(start))?;
         Ok(Head::One(One::Union(number, tag)))
@@ -261,9 +265,7 @@ impl Reader {
     {
         let start = self.at;
         let [number] = self.body::<1>(scene.bytes)?;
-        if !is_declared(number, scene.tables.types.len()) {
-            return Err(Refusal::Undeclared(start));
-        }
+        declared(scene, number, start)?;
         element_of(&scene.tables.types, number).ok_or(Refusal::Clash(start))?;
         Ok(Head::Two(Two::Array(number)))
     }

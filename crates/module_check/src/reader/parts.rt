@@ -123,10 +123,10 @@ impl Reader {
         if !singles {
             return Err(Refusal::Clash(parent.start));
         }
-        match Members::new(numbers, members) {
-            Some(types) => Ok(types),
-            None => unreachable(),
-        }
+        let Some(types) = Members::new(numbers, members) else {
+            unreachable()
+        };
+        Ok(types)
     }
 
     #[cycle(expressions)]

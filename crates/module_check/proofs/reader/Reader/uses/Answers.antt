@@ -37,4 +37,4 @@ returns-clause-reads c =
     let M = c.in-Some.ensures in
     let f : Unit {0} → ℕ → Out ℕ = λ _ q. use_at (c.args.rows + 2) c.args.bytes.now q in
     filled f c.args.n c.args.self.now.at c.loop-number.number-index c.loop-number.self.at c.loop-number.number-items c.in-Some.members
-        (omega (arith, I.2, c.loop-number.auto.number-items)) (omega (arith, I.2, c.loop-number.auto.number-items, c.loop-number.auto.number-index-end)) I.2 I.3 M.0 M.1
+    (omega (arith, I.2, c.loop-number.auto.number-items)) (omega (arith, I.2, c.loop-number.auto.number-items, c.loop-number.auto.number-index-end)) I.2 I.3 M.0 M.1
