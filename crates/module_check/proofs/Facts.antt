@@ -1,126 +1,71 @@
 -- Facts on lists of types that the reading functions share.
-use Rattle.std.proofs.Common.{◌≡◌, ℕ, ◌+◌, ◌-◌, ◌<◌, ◌≤◌, Bool, true, false, cond, ◌&&◌, eqb, List, [], ◌∷◌, ◌++◌, length, get_or, take, drop, set, replicate, Some, None, sym, refl, ap, ◌∙◌, subst, ap₂, arith, length-append, length-take}
+use Rattle.std.proofs.Common.{◌≡◌, ℕ, ◌-◌, ◌<◌, ◌≤◌, Bool, true, false, ◌&&◌, List, [], ◌∷◌, ◌++◌, length, get_or, take, drop, replicate, Some, sym, refl, ap, ◌∙◌, ap₂, inl, inr, arith}
 use lib.ListN.{length-replicate}
 use Rattle.std.specs.List.{slice_get}
-use Rattle.std.proofs.lemmas.List.{get_or-take, take_more, take_all, drop-drop, drop-replicate, drop-set-lt, take-append-drop, append_assoc, length-map, get_or-map}
-use Rattle.std.proofs.lemmas.Option.{slice_get-get_or, slice_get_past, slice_get_read}
+use Rattle.std.proofs.lemmas.List.{take_at, take_all, drop-replicate, length-map, get_or-map}
+use Rattle.std.proofs.lemmas.Option.{slice_get-get_or, slice_get_read}
 use Rattle.std.proofs.lemmas.Bool.Decides.{nat_tests}
 use Rattle.language.specs.Sorts.{same}
 use Rattle.verdict.specs.Judging.{every}
-use Rattle.verdict.specs.Outcomes.{Out, accepted, after, each}
+use Rattle.verdict.specs.Outcomes.{Out, accepted, refused, after, judged, each}
+use Rattle.verdict.proofs.Spans.{not_accepted}
+use Rattle.values.specs.declared.refusal.Refusal.{Refusal}
 use Rattle.values.specs.declared.members.Members.{Members}
 use Rattle.values.specs.Rows.{used}
 use Rattle.verdict.specs.Bodies.{members_of}
 use Rattle.verdict.proofs.Each.{Going, going_fails, going_all}
 use Rattle.verdict.proofs.Sames.{same_refl, same_true}
 use Rattle.verdict.proofs.Members.{members_zeroed}
-use Rattle.module_check.specs.declared.stop.Stop.{Stop}
-use Rattle.module_check.specs.declared.stop.Stop.TheVariants.{Declined, Memory}
 use Rattle.language.specs.declared.function.Function as code
 use Rattle.module_check.specs.Views.{seen, seen_all}
 use Rattle.module_check.specs.Reading.{Declines}
-
--- The front of a list by places.
-pub nth_front : (n : ℕ) (xs : List ℕ) (i : ℕ) → i < n → n ≤ length xs → Some (get_or xs i 0) ≡ slice_get (take n xs) i
-nth_front n xs i lt le =
-    sym (slice_get-get_or (take n xs) i 0 (omega (arith, length-take n xs)) ∙ ap Some (get_or-take n xs i 0 lt))
-
-pub nth_behind : (n : ℕ) (xs : List ℕ) (i : ℕ) → n ≤ i → None ≡ slice_get (take n xs) i
-nth_behind n xs i le = sym (slice_get_past (take n xs) i (omega (arith, length-take n xs)))
 
 differ : (xs ys : List ℕ) (b : Bool) → same xs ys ≡ b → (xs ≡ ys → ⊥) → false ≡ b
 differ xs ys true e h = absurd (h (same_true xs ys e))
 differ xs ys false e h = refl
 
-pub not_same : (xs ys : List ℕ) → (xs ≡ ys → ⊥) → false ≡ same xs ys
-not_same xs ys h = differ xs ys (same xs ys) refl h
-
 pub is_same : (xs ys : List ℕ) → xs ≡ ys → true ≡ same xs ys
 is_same xs ys e = sym (ap (same xs) (sym e) ∙ same_refl xs)
-
--- Two lists that are as long and agree as far as they go.
-pub same_all : (xs ys : List ℕ) (n : ℕ) → length xs ≡ length ys → length xs ≤ n → take n xs ≡ take n ys → true ≡ same xs ys
-same_all xs ys n l h e = is_same xs ys (sym (take_all n xs h) ∙ (e ∙ take_all n ys (omega (arith, l))))
-
-pub take_next : (xs ys : List ℕ) (i x y : ℕ) → slice_get xs i ≡ Some x → slice_get ys i ≡ Some y → i < length xs → i < length ys → take i xs ≡ take i ys → x ≡ y → take (i + 1) xs ≡ take (i + 1) ys
-take_next xs ys i x y p q l k e d =
-    let a : get_or xs i 0 ≡ x = (let h = slice_get-get_or xs i 0 l in cc) in
-    let b : get_or ys i 0 ≡ y = (let h = slice_get-get_or ys i 0 k in cc) in
-    let c : get_or xs i 0 ≡ get_or ys i 0 = cc in
-    take_more xs i 0 l ∙ (subst (λ (z : List ℕ). take i xs ++ get_or xs i 0 ∷ [] ≡ z ++ get_or ys i 0 ∷ []) e (ap (λ z. take i xs ++ z ∷ []) c) ∙ sym (take_more ys i 0 k))
 
 every_append : (t : ℕ) (xs ys : List ℕ) → every t (xs ++ ys) ≡ (every t xs && every t ys)
 every_append t [] ys = refl
 every_append t (x ∷ xs) ys = let h = every_append t xs ys in grind (arith, nat_tests)
 
-pub every_next : (t : ℕ) (xs : List ℕ) (i x : ℕ) → slice_get xs i ≡ Some x → i < length xs → every t (take i xs) ≡ true → x ≡ t → every t (take (i + 1) xs) ≡ true
-every_next t xs i x p l e d =
-    let a : get_or xs i 0 ≡ x = (let h = slice_get-get_or xs i 0 l in cc) in
-    let m = ap (every t) (take_more xs i 0 l) in
-    let f = every_append t (take i xs) (get_or xs i 0 ∷ []) in
-    grind (arith, nat_tests)
-
-pub every_fails : (t : ℕ) (xs : List ℕ) (i x : ℕ) → slice_get xs i ≡ Some x → i < length xs → (x ≡ t → ⊥) → false ≡ every t xs
-every_fails t xs i x p l d =
-    let a : get_or xs i 0 ≡ x = (let h = slice_get-get_or xs i 0 l in cc) in
-    let g = slice_get-get_or xs i 0 l in
-    let w = ap (every t) (take-append-drop (i + 1) xs) in
-    let m = take_more xs i 0 l in
-    let u = every_append t (take (i + 1) xs) (drop (i + 1) xs) in
-    let v = every_append t (take i xs) (get_or xs i 0 ∷ []) in
-    let z = ap (every t) m in
-    let q : eqb (get_or xs i 0) t ≡ false = grind (arith, nat_tests) in
-    grind (arith, nat_tests)
-
--- Places of zeros that are filled from the front.
-pub zeros_next : (xs : List ℕ) (i y : ℕ) → drop i xs ≡ replicate (8 - i) 0 → drop (i + 1) (set xs i y) ≡ replicate (8 - (i + 1)) 0
-zeros_next xs i y h =
-    let e : 8 - i - 1 ≡ 8 - (i + 1) = omega arith in
-    drop-set-lt (i + 1) xs i y (omega arith) ∙ (sym (drop-drop 1 i xs) ∙ (ap (drop 1) h ∙ (drop-replicate 1 (8 - i) 0 ∙ ap (λ n. replicate n 0) e)))
-
--- Every place of a list is taken.
-pub nth_there : (xs : List ℕ) (i : ℕ) → i < length xs → None ≡ slice_get xs i → ⊥
-nth_there xs i l e = let h = slice_get-get_or xs i 0 l in let z : ◌≡◌ {A = ℕ} 0 1 = cc in omega arith
-
 pub nth_is : (xs : List ℕ) (i x : ℕ) → i < length xs → Some x ≡ slice_get xs i → get_or xs i 0 ≡ x
 nth_is xs i x l e = let h = slice_get-get_or xs i 0 l in cc
 
--- A front of a list that grows.
-pub front_next : (ns front xs : List ℕ) (i x : ℕ) {before : List ℕ} → i < length xs → Some x ≡ slice_get xs i → before ≡ front ++ take i xs → ns ≡ before ++ x ∷ [] → ns ≡ front ++ take (i + 1) xs
-front_next ns front xs i x l e h p =
-    p ∙ (ap (λ z. z ++ x ∷ []) h ∙ (append_assoc front (take i xs) (x ∷ []) ∙ ap (λ z. front ++ z) (ap (λ y. take i xs ++ y ∷ []) (sym (nth_is xs i x l e)) ∙ sym (take_more xs i 0 l))))
-
-pub front_long : (ns front xs : List ℕ) (i : ℕ) → i ≤ length xs → ns ≡ front ++ take i xs → length ns ≡ length front + i
-front_long ns front xs i l e = omega (arith, ap length e, length-append front (take i xs), length-take i xs)
-
 -- What fails first fails the whole.
-pub declines_after : {A B : Type 0} (o : Out A) (f : A → ℕ → Out B) (e : Stop) → Declines o e → Declines (after o f) e
-declines_after o f (Declined w) h = rw h
-declines_after o f Memory h = tt
+pub declines_after : {A B : Type 0} (o : Out A) (f : A → ℕ → Out B) (e : Refusal) → Declines o e → Declines (after o f) e
+declines_after o f e (inl m) = inl m
+declines_after o f e (inr h) = inr (ap (λ z. after z f) h)
 
-pub going_declines : {A B : Type 0} (f : A → ℕ → Out B) (xs : List A) (start i place : ℕ) (d : A) (done : List B) (e : Stop) → i < length xs → Declines (f (get_or xs i d) place) e → Going f xs start i done place → Declines (each f xs start) e
-going_declines f xs start i place d done (Declined w) lt h g = going_fails f xs start i place d done w lt h g
-going_declines f xs start i place d done Memory lt h g = tt
+pub going_declines : {A B : Type 0} (f : A → ℕ → Out B) (xs : List A) (start i place : ℕ) (d : A) (done : List B) (e : Refusal) → i < length xs → Declines (f (get_or xs i d) place) e → Going f xs start i done place → Declines (each f xs start) e
+going_declines f xs start i place d done e lt (inl m) g = inl m
+going_declines f xs start i place d done e lt (inr h) g = inr (going_fails f xs start i place d done e lt h g)
 
--- Places that are filled up to a count are members, and what was read.
-pub filled : (f : Unit {0} → ℕ → Out ℕ) (n start i place : ℕ) (numbers : List ℕ) (m : Members) → n ≤ i → i ≤ n → length numbers ≡ 8 → drop i numbers ≡ replicate (8 - i) 0 → Going f (replicate n tt) start i (take i numbers) place → m.numbers ≡ numbers → m.count ≡ n → (each f (replicate n tt) start ≡ accepted (used m) place) × (m ≡ members_of (used m))
-filled f n start i place numbers m below above long zeros g e d =
-    let same_count : i ≡ m.count = omega (arith, d) in
-    let front : take i numbers ≡ used m = ap₂ take same_count (sym e) in
-    let read = going_all f (replicate n tt) start i place (take i numbers) (omega (arith, length-replicate {A = Unit {0}} n tt)) g in
-    let whole : numbers ≡ take i numbers ++ replicate (8 - i) 0 = sym (take-append-drop i numbers) ∙ ap (λ z. take i numbers ++ z) zeros in (
-      read ∙ ap (λ z. accepted z place) front,
-      sym (members_zeroed m (e ∙ (whole ∙ ap₂ (λ a k. a ++ replicate (8 - k) 0) front same_count))),
+-- A test that fails is the same refusal, whatever would be made where it passes.
+pub judged_else : {A B D : Type 0} (o : Out A) (v : Refusal) (test : A → Bool) (f : A → B) (g : A → D) (e : Refusal) → Declines (after o (λ a q. judged v (test a) (f a) q)) e → Declines (after o (λ a q. judged v (test a) (g a) q)) e
+judged_else o v test f g e (inl m) = inl m
+judged_else {A} {B} {D} o v test f g e (inr h) = inr (go o h)
+  where
+    tested : (b : Bool) (x : B) (y : D) (q : ℕ) → judged v b x q ≡ refused e → judged v b y q ≡ refused e
+    tested true x y q h = absurd (not_accepted e x q (sym h))
+    tested false x y q h = ap refused (let i : v ≡ e = cc in i)
+
+    go : (o : Out A) → after o (λ a q. judged v (test a) (f a) q) ≡ refused e → after o (λ a q. judged v (test a) (g a) q) ≡ refused e
+    go (accepted a q) h = tested (test a) (f a) (g a) q h
+    go (refused w) h = ap refused (let i : w ≡ e = cc in i)
+
+-- Places that are filled up to a count, with zeros behind, are members, and what was read.
+pub filled : (f : Unit {0} → ℕ → Out ℕ) (n start i place : ℕ) (items : List ℕ) (m : Members) → n ≤ i → i ≤ n → length items ≡ n → Going f (replicate n tt) start i (take i items) place → m.numbers ≡ items ++ drop n (replicate 8 0) → m.count ≡ n → (each f (replicate n tt) start ≡ accepted (used m) place) × (m ≡ members_of (used m))
+filled f n start i place items m below above long g e d =
+    let front : items ≡ used m = sym (take_at items (drop n (replicate 8 0)) n long) ∙ ap₂ take (sym d) (sym e) in
+    let read = going_all f (replicate n tt) start i place (take i items) (omega (arith, length-replicate {A = Unit {0}} n tt)) g in (
+      read ∙ ap (λ z. accepted z place) (take_all i items (omega arith) ∙ front),
+      sym (members_zeroed m (e ∙ (ap (λ z. items ++ z) (drop-replicate n 8 0) ∙ ap₂ (λ a k. a ++ replicate (8 - k) 0) front (sym d)))),
     )
 
 -- What callers see of a function at a place.
 pub nth_seen : (fs : List code.Function) (n i : ℕ) (f : code.Function) → n ≡ length fs → i < n → f ≡ get_or fs i f → slice_get (seen_all fs) i ≡ Some (seen f)
 nth_seen fs n i f l h e =
     slice_get_read (seen_all fs) n i (seen f) (l ∙ sym (length-map fs seen)) h (ap seen e ∙ sym (get_or-map seen fs i f (seen f) (omega arith)))
-
-pub nth_unseen : (fs : List code.Function) (i : ℕ) → length fs ≤ i → slice_get (seen_all fs) i ≡ None
-nth_unseen fs i h = slice_get_past (seen_all fs) i (omega (arith, length-map fs seen))
-
-pub used_cond : (b : Bool) (x y : Members) → used (cond b x y) ≡ cond b (used x) (used y)
-used_cond true x y = refl
-used_cond false x y = refl

@@ -3,3 +3,5 @@ mod Steps
 mod Loops
 mod ModuleFacts
 mod Meaning
+pub mod Bodies
+pub mod Tests

@@ -1,9 +1,11 @@
 -- Loops over members, arms and ends: what has been read so far.
-use Rattle.std.proofs.Common.{◌≡◌, ℕ, zero, suc, ◌+◌, ◌<◌, ◌≤◌, Bool, true, false, cond, ◌&&◌, eqb, List, [], ◌∷◌, ◌++◌, length, get_or, take, set, replicate, Ok, sym, refl, ap, ◌∙◌, ap₂, arith}
+use Rattle.std.proofs.Common.{◌≡◌, ℕ, zero, suc, ◌+◌, ◌<◌, ◌≤◌, Bool, true, false, cond, ◌&&◌, eqb, List, [], ◌∷◌, ◌++◌, length, get_or, take, set, replicate, Some, None, Ok, Option, is_some, ltb, sym, refl, ap, ◌∙◌, ap₂, arith}
 use lib.ListN.{length-replicate}
-use Rattle.std.proofs.lemmas.List.{append_assoc, append-nil, length_push, take_more_set}
+use Rattle.std.proofs.lemmas.List.{take_all, take_at, append_assoc, append-nil, length_push, take_more_set}
 use Rattle.std.proofs.lemmas.Bool.Decides.{nat_tests}
-use Rattle.std.proofs.lemmas.Bool.{ne_eqb}
+use Rattle.std.proofs.lemmas.Bool.{ne_eqb, lt-ltb, false≢true}
+use Rattle.std.specs.Option.{unwrap_or}
+use Rattle.values.specs.declared.refusal.Refusal.{Refusal}
 use Rattle.values.specs.declared.members.Members.{Members}
 use Rattle.values.specs.declared.refusal.Refusal.TheVariants.{Clash}
 use Rattle.values.specs.Rows.{used}
@@ -19,7 +21,6 @@ use Rattle.verdict.specs.Judging.{Typed, typed, single, singles, firsts, agree, 
 use Rattle.verdict.specs.Expressions.{Reads, Ends, members_at, list_at, arms_at, ends_at}
 use Rattle.verdict.proofs.Each.{Going, going_none, going_more, going_all}
 use Rattle.verdict.proofs.Sound.{count_trees}
-use Rattle.module_check.specs.declared.stop.Stop.{Stop}
 use Rattle.module_check.specs.Reading.{Declines, PartsRead, ArmsRead, EndsRead}
 use Rattle.module_check.proofs.Facts.{declines_after, going_declines}
 
@@ -84,7 +85,7 @@ module _ (counts : List ℕ) (ex : Reads) (Γ : List ℕ) (n start : ℕ) (befor
         take_more_set numbers i t l ∙ (ap₂ (λ y z. y ++ z ∷ []) L.5 h ∙ sym (firsts_push xs a)),
       )
 
-  pub listing_fails : (p i : ℕ) (numbers : List ℕ) (flag : Bool) (nodes : List Node) (place : ℕ) (e : Stop) → Listing counts ex Γ n start before i numbers flag nodes place → i < n → Declines (ex Γ place) e → Declines (list_at ex n Γ p start) e
+  pub listing_fails : (p i : ℕ) (numbers : List ℕ) (flag : Bool) (nodes : List Node) (place : ℕ) (e : Refusal) → Listing counts ex Γ n start before i numbers flag nodes place → i < n → Declines (ex Γ place) e → Declines (list_at ex n Γ p start) e
   listing_fails p i numbers flag nodes place e L lt d =
       declines_after (members_at ex n Γ start) _ e (going_declines (λ (_ : Unit {0}) r. ex Γ r) (replicate n tt) start i place tt L.0 e (omega (arith, length-replicate {A = Unit {0}} n tt)) d L.1)
 
@@ -97,13 +98,12 @@ module _ (counts : List ℕ) (ex : Reads) (Γ : List ℕ) (n start : ℕ) (befor
       let f = sym L.4 in
       rw (m, f)
 
-  pub listing_done : (p i : ℕ) (numbers : List ℕ) (nodes : List Node) (place : ℕ) (m : Members) → Listing counts ex Γ n start before i numbers true nodes place → n ≤ i → i ≤ n → m.numbers ≡ numbers → m.count ≡ n → PartsRead counts (head.List n) (list_at ex n Γ p start) before nodes place (Ok m)
+  pub listing_done : (p i : ℕ) (numbers : List ℕ) (nodes : List Node) (place : ℕ) (rest : List ℕ) (m : Members) → Listing counts ex Γ n start before i numbers true nodes place → n ≤ i → i ≤ n → length numbers ≡ n → m.numbers ≡ numbers ++ rest → m.count ≡ n → PartsRead counts (head.List n) (list_at ex n Γ p start) before nodes place (Ok m)
   unfolding flat arity
-  listing_done p i numbers nodes place m L le ge e d =
+  listing_done p i numbers nodes place rest m L le ge long e d =
       let a = members_are i numbers true nodes place L le in
       let f = sym L.4 in
-      let same_i : i ≡ m.count = omega (arith, d) in
-      let u : firsts L.0 ≡ used m = sym L.5 ∙ ap₂ take same_i (sym e) in
+      let u : firsts L.0 ≡ used m = sym L.5 ∙ (take_all i numbers (omega arith) ∙ (sym (take_at numbers rest m.count (omega (arith, d))) ∙ ap (take m.count) (sym e))) in
       let c : count (trees L.0) ≡ n = count_trees L.0 ∙ omega (arith, L.3) in (
         list (trees L.0),
         flat_all counts (trees L.0),
@@ -112,6 +112,17 @@ module _ (counts : List ℕ) (ex : Reads) (Γ : List ℕ) (n start : ℕ) (befor
         L.2,
         count_trees L.0 ∙ (sym (firsts_long L.0) ∙ ap length u),
       )
+
+-- The types that the arms share, once there is one.
+abbrev pub shared : Option Members → List ℕ
+shared (Some m) = used m
+shared None = []
+
+pub first_shared : (first : Option Members) (m : Members) (i : ℕ) → is_some first ≡ ltb 0 i → used (unwrap_or first m) ≡ cond (eqb i 0) (used m) (shared first)
+first_shared (Some f) m zero h = absurd (false≢true (sym h))
+first_shared (Some f) m (suc i) h = ap (λ b. cond b (used m) (used f)) (sym (ne_eqb (suc i) 0 (λ z. omega arith)))
+first_shared None m zero h = refl
+first_shared None m (suc i) h = absurd (false≢true (h ∙ lt-ltb 0 (suc i) (omega arith)))
 
 -- The arms of a tagcase; ts are the types of the first, once there is one.
 abbrev pub Arming : List ℕ → Reads → List ℕ → List ℕ → (start : ℕ) → List Node → List ℕ → (i : ℕ) → Bool → List Node → ℕ → Type 0
@@ -151,7 +162,7 @@ module _ (counts : List ℕ) (ex : Reads) (us Γ : List ℕ) (start : ℕ) (befo
         λ h. t.1,
       )
 
-  pub arming_fails : (p i : ℕ) (flag : Bool) (nodes : List Node) (place : ℕ) (ts : List ℕ) (e : Stop) → Arming counts ex us Γ start before ts i flag nodes place → i < length us → Declines (ex (Γ ++ get_or us i 0 ∷ []) place) e → Declines (after (arms_at ex us Γ start) (λ xs q. judged (Clash p) (agree (first_types xs) xs) xs q)) e
+  pub arming_fails : (p i : ℕ) (flag : Bool) (nodes : List Node) (place : ℕ) (ts : List ℕ) (e : Refusal) → Arming counts ex us Γ start before ts i flag nodes place → i < length us → Declines (ex (Γ ++ get_or us i 0 ∷ []) place) e → Declines (after (arms_at ex us Γ start) (λ xs q. judged (Clash p) (agree (first_types xs) xs) xs q)) e
   arming_fails p i flag nodes place ts e L lt d =
       declines_after (arms_at ex us Γ start) _ e (going_declines (λ u r. ex (Γ ++ u ∷ []) r) us start i place 0 L.0 e lt d L.1)
 
@@ -187,7 +198,7 @@ module _ (counts : List ℕ) (en : Ends) (ts again us Γ : List ℕ) (start : �
     omega (arith, length_push L.0 l, L.3),
   )
 
-  pub ending_fails : (i : ℕ) (nodes : List Node) (place : ℕ) (e : Stop) → Ending counts en ts again us Γ start before i nodes place → i < length us → Declines (en ts again (Γ ++ get_or us i 0 ∷ []) place) e → Declines (ends_at en ts again us Γ start) e
+  pub ending_fails : (i : ℕ) (nodes : List Node) (place : ℕ) (e : Refusal) → Ending counts en ts again us Γ start before i nodes place → i < length us → Declines (en ts again (Γ ++ get_or us i 0 ∷ []) place) e → Declines (ends_at en ts again us Γ start) e
   ending_fails i nodes place e L lt d = going_declines (λ u r. en ts again (Γ ++ u ∷ []) r) us start i place 0 L.0 e lt d L.1
 
   pub ending_done : (i : ℕ) (nodes : List Node) (place : ℕ) → Ending counts en ts again us Γ start before i nodes place → length us ≤ i → i ≤ length us → EndsRead counts (length ts) (length us) (ends_at en ts again us Γ start) before nodes place (Ok tt)

@@ -1,6 +1,6 @@
 -- What the answer of the check means.
-use Rattle.std.proofs.Common.{◌≡◌, ℕ, ◌<◌, ◌≤◌, cond, ◌⊎◌, List, length, Ok, Err, Result, sym, refl, ap, ◌∙◌, inl, inr}
-use Rattle.std.proofs.lemmas.Bool.{le-leb, lt-leb}
+use Rattle.std.proofs.Common.{◌≡◌, ℕ, ◌≤◌, cond, ◌⊎◌, List, length, Ok, Err, Result, sym, ap, ◌∙◌, inl, inr}
+use Rattle.std.proofs.lemmas.Bool.{le-leb}
 use Rattle.values.specs.declared.refusal.Refusal.{Refusal}
 use Rattle.values.specs.declared.refusal.Refusal.TheVariants.{Memory, Oversize}
 use Rattle.language.specs.declared.program.Program.{Program}
@@ -12,21 +12,10 @@ use Rattle.verdict.specs.Exactness.{Bytes, Encodes}
 use Rattle.verdict.proofs.Spans.{not_accepted}
 use Rattle.verdict.proofs.SoundModules.{verdict_sound}
 use Rattle.verdict.proofs.Exact.{exact}
-use Rattle.module_check.specs.declared.stop.Stop.{Stop}
-use Rattle.module_check.specs.declared.stop.Stop.TheVariants as stop
-use Rattle.module_check.specs.Reading.{Declines}
-use Rattle.module_check.specs.Checking.{Checked, Means, refusal_of}
+use Rattle.module_check.specs.Checking.{Checked, Means}
 
 pub few_bytes : (bs : List ℕ) → length bs ≤ 16384 → verdict bs ≡ module_at bs
 few_bytes bs h = ap (λ b. cond b (module_at bs) (refused Oversize)) (le-leb (length bs) 16384 h)
-
-pub many_bytes : (bs : List ℕ) → 16384 < length bs → verdict bs ≡ refused Oversize
-many_bytes bs h = ap (λ b. cond b (module_at bs) (refused Oversize)) (lt-leb (length bs) 16384 h)
-
--- Stopping says that the verdict refuses, or nothing.
-pub stopped : (bs : List ℕ) (e : Stop) → length bs ≤ 16384 → Declines (module_at bs) e → (refusal_of e ≡ Memory) ⊎ (verdict bs ≡ refused (refusal_of e))
-stopped bs (stop.Declined w) h d = inr (few_bytes bs h ∙ d)
-stopped bs stop.Memory h d = inl refl
 
 pub passed : (bs : List ℕ) → Bytes bs → length bs ≤ 16384 → (m : Module) (q : ℕ) → module_at bs ≡ accepted m q → (verdict bs ≡ accepted m (length bs)) × WellTyped m
 passed bs bytes h m q e =

@@ -1,81 +1,28 @@
 -- Reading rows and functions one behind the other.
-use Rattle.std.proofs.Common.{◌≡◌, ℕ, zero, suc, ◌+◌, ◌-◌, ◌<◌, ◌≤◌, Bool, true, false, cond, ◌||◌, List, [], ◌∷◌, ◌++◌, map, length, get_or, take, Some, None, sym, refl, ap, ◌∙◌, subst, ap₂, arith, length-append}
-use Rattle.std.specs.List.{slice_get}
-use Rattle.std.proofs.lemmas.List.{append_assoc, append-nil, take_more, take_all, map-append}
-use Rattle.std.proofs.lemmas.Option.{slice_get-get_or}
-use Rattle.std.proofs.lemmas.Bool.{le-ltb, le-leb, eq-eqb}
-use Rattle.std.proofs.lemmas.Bool.Decides.{nat_tests}
+use Rattle.std.proofs.Common.{◌≡◌, ℕ, suc, ◌+◌, ◌-◌, ◌<◌, ◌≤◌, true, List, [], ◌∷◌, ◌++◌, map, length, Ok, Err, Result, is_ok, sym, refl, ap, ◌∙◌, subst, ap₂, arith, length-append}
+use Rattle.std.proofs.lemmas.List.{append_assoc, append-nil, map-append}
+use Rattle.std.proofs.lemmas.Bool.{le-leb, eq-eqb, false≢true}
+use Rattle.values.specs.declared.refusal.Refusal.{Refusal}
 use Rattle.values.specs.declared.row.Row.{Row}
-use Rattle.values.specs.Tables.{row_of}
+use Rattle.values.specs.declared.row_error.RowError.{RowError}
+use Rattle.values.specs.declared.refusal.Refusal.TheVariants.{Clash}
+use Rattle.values.specs.Tables.{Pushed}
 use Rattle.language.specs.declared.function.Function as code
 use Rattle.language.specs.declared.node.Node.{Node}
 use Rattle.language.specs.Syntax.{Expr, Function}
-use Rattle.language.specs.Sorts.{same, twins, has_twin}
+use Rattle.language.specs.Sorts.{same}
 use Rattle.language.specs.Typing.{Context, signatures, context, result_counts}
 use Rattle.language.specs.Tables.{flat, Entry, entry, said, entries, nodes_of}
-use Rattle.verdict.specs.Outcomes.{accepted, after, first_at, whole, body}
+use Rattle.verdict.specs.Outcomes.{accepted, after, judged, first_at, whole, body}
 use Rattle.verdict.specs.Bodies.{few, uses_at}
 use Rattle.verdict.specs.Judging.{typed}
 use Rattle.verdict.specs.Expressions.{expr}
 use Rattle.verdict.specs.Modules.{row_at, rows_at, function_at, functions_at, module_at}
-use Rattle.verdict.proofs.Spans.{not_none}
+use Rattle.verdict.proofs.Sames.{same_refl}
 use Rattle.verdict.proofs.SoundModules.{signatures_push}
-use Rattle.module_check.specs.declared.stop.Stop.{Stop}
 use Rattle.module_check.specs.Views.{seen, seen_all}
 use Rattle.module_check.specs.Reading.{Declines}
-use Rattle.module_check.proofs.Facts.{declines_after}
-
--- Twins.
-twin_append : (xs ys : List Row) (r : Row) → has_twin (xs ++ ys) r ≡ (has_twin xs r || has_twin ys r)
-twin_append [] ys r = refl
-twin_append (x ∷ xs) ys r = let h = twin_append xs ys r in grind (arith, nat_tests)
-
-pub row_there : (rows : List Row) (n : ℕ) → 2 ≤ n → row_of rows n ≡ slice_get rows (n - 2)
-row_there rows n h = ap (λ b. cond b None (slice_get rows (n - 2))) (le-ltb n 2 h)
-
-nth_some : (rows : List Row) (i : ℕ) (q : Row) → slice_get rows i ≡ Some q → i < length rows
-nth_some [] i q h = absurd (not_none q h)
-nth_some (x ∷ rows) zero q h = omega arith
-nth_some (x ∷ rows) (suc i) q h = omega (arith, nth_some rows i q h)
-
-nth_none : (rows : List Row) (i : ℕ) → slice_get rows i ≡ None → length rows ≤ i
-nth_none [] i h = omega arith
-nth_none (x ∷ rows) zero h = absurd (not_none x (sym h))
-nth_none (x ∷ rows) (suc i) h = omega (arith, nth_none rows i h)
-
-pub twin_next : (rows : List Row) (r q : Row) (n : ℕ) → 2 ≤ n → Some q ≡ row_of rows n → has_twin (take (n - 2) rows) r ≡ false → false ≡ twins q r → has_twin (take (n + 1 - 2) rows) r ≡ false
-twin_next rows r q n two e h t =
-    let i = n - 2 in
-    let at_i : slice_get rows i ≡ Some q = sym (e ∙ row_there rows n two) in
-    let l = nth_some rows i q at_i in
-    let g : get_or rows i q ≡ q = (let k = slice_get-get_or rows i q l in cc) in
-    let m : n + 1 - 2 ≡ i + 1 = omega arith in
-    let w = twin_append (take i rows) (get_or rows i q ∷ []) r in
-    let v : has_twin (get_or rows i q ∷ []) r ≡ false = ap (λ z. twins z r || false) g ∙ ap (λ b. b || false) (sym t) in
-    ap (λ k. has_twin (take k rows) r) m ∙ (ap (λ z. has_twin z r) (take_more rows i q l) ∙ (w ∙ ap₂ ◌||◌ h v))
-
-true_or : (a b : Bool) → a ≡ true → true ≡ (a || b)
-true_or true b h = refl
-true_or false b h = grind (arith, nat_tests)
-
-or_right : (a b : Bool) → true ≡ b → true ≡ (a || b)
-or_right true b h = refl
-or_right false b h = h
-
-twin_at : (r q : Row) → true ≡ twins q r → (rows : List Row) (i : ℕ) → slice_get rows i ≡ Some q → true ≡ has_twin rows r
-twin_at r q t [] i h = absurd (not_none q h)
-twin_at r q t (x ∷ rows) zero h = let s : x ≡ q = cc in true_or (twins x r) (has_twin rows r) (ap (λ z. twins z r) s ∙ sym t)
-twin_at r q t (x ∷ rows) (suc i) h = or_right (twins x r) (has_twin rows r) (twin_at r q t rows i h)
-
-pub twin_found : (rows : List Row) (r q : Row) (n : ℕ) → 2 ≤ n → Some q ≡ row_of rows n → true ≡ twins q r → true ≡ has_twin rows r
-twin_found rows r q n two e t = twin_at r q t rows (n - 2) (sym (e ∙ row_there rows n two))
-
-pub twin_none : (rows : List Row) (r : Row) (n : ℕ) → 2 ≤ n → None ≡ row_of rows n → has_twin (take (n - 2) rows) r ≡ false → false ≡ has_twin rows r
-twin_none rows r n two e h =
-    sym (ap (λ z. has_twin z r) (sym (take_all (n - 2) rows (nth_none rows (n - 2) (sym (e ∙ row_there rows n two))))) ∙ h)
-
-pub twin_all : (rows : List Row) (r : Row) (n : ℕ) → length rows ≤ n - 2 → has_twin (take (n - 2) rows) r ≡ false → false ≡ has_twin rows r
-twin_all rows r n l h = sym (ap (λ z. has_twin z r) (sym (take_all (n - 2) rows l)) ∙ h)
+use Rattle.module_check.proofs.Facts.{declines_after, judged_else}
 
 -- Rows.
 module _ (n : ℕ) (bs : List ℕ) (first : List Row) (start : ℕ) where
@@ -88,7 +35,7 @@ module _ (n : ℕ) (bs : List ℕ) (first : List Row) (start : ℕ) where
       let m : n - i ≡ suc (n - (i + 1)) = omega arith in
       h ∙ (ap (λ k. rows_at k bs rows place) m ∙ (rw e (ap (λ z. rows_at (n - (i + 1)) bs z next) (sym f))))
 
-  pub rowing_fails : (i : ℕ) (rows : List Row) (place : ℕ) (e : Stop) → Rowing i rows place → i < n → Declines (row_at bs rows place) e → Declines (rows_at n bs first start) e
+  pub rowing_fails : (i : ℕ) (rows : List Row) (place : ℕ) (e : Refusal) → Rowing i rows place → i < n → Declines (row_at bs rows place) e → Declines (rows_at n bs first start) e
   unfolding rows_at
   rowing_fails i rows place e h lt d =
       let m : n - i ≡ suc (n - (i + 1)) = omega arith in
@@ -99,6 +46,11 @@ module _ (n : ℕ) (bs : List ℕ) (first : List Row) (start : ℕ) where
   rowing_done i rows place h le =
       let m : n - i ≡ 0 = omega arith in
       h ∙ ap (λ k. rows_at k bs rows place) m
+
+-- A row that was added is the last.
+pub row_pushed : (before : List Row) (row : Row) (behind : List Row) (r : Result ℕ RowError) → Pushed before row behind r → is_ok r ≡ true → behind ≡ before ++ row ∷ []
+row_pushed before row behind (Ok n) p h = p.3
+row_pushed before row behind (Err e) p h = absurd (false≢true h)
 
 -- Functions: what the tables say of those read so far.
 counts_push : (gs : List Function) (g : Function) → result_counts (signatures (gs ++ g ∷ [])) ≡ result_counts (signatures gs) ++ length g.results ∷ []
@@ -150,7 +102,7 @@ module _ (n : ℕ) (rows : List Row) (bs : List ℕ) (start : ℕ) where
       zero_plus : (k : ℕ) → k ≡ 0 + k
       zero_plus k = omega arith
 
-  pub defining_fails : (i : ℕ) (fs : List code.Function) (nodes : List Node) (place : ℕ) (e : Stop) → Defining i fs nodes place → i < n → Declines (function_at (context rows (seen_all fs)) bs place) e → Declines (functions_at n rows bs [] start) e
+  pub defining_fails : (i : ℕ) (fs : List code.Function) (nodes : List Node) (place : ℕ) (e : Refusal) → Defining i fs nodes place → i < n → Declines (function_at (context rows (seen_all fs)) bs place) e → Declines (functions_at n rows bs [] start) e
   unfolding functions_at
   defining_fails i fs nodes place e D lt d =
       let k : n - i ≡ suc (n - (i + 1)) = omega arith in
@@ -163,11 +115,18 @@ module _ (n : ℕ) (rows : List Row) (bs : List ℕ) (start : ℕ) where
       let k : n - i ≡ 0 = omega arith in
       D.1 ∙ ap (λ j. functions_at j rows bs D.0 place) k
 
--- A function whose parts were read.
-pub function_reads : (C : Context) (bs : List ℕ) (p b k w : ℕ) (ps rs ts : List ℕ) (e : Expr) (r s q : ℕ) → first_at bs p ≡ accepted b k → b ≡ 0x20 → whole 2 bs p ≡ accepted tt w → few (body bs p 1) ≡ true → few (body bs p 2) ≡ true → uses_at (body bs p 1) (length C.rows + 2) bs w ≡ accepted ps r → uses_at (body bs p 2) (length C.rows + 2) bs r ≡ accepted rs s → expr C 100 bs ps s ≡ accepted (typed e ts) q → same rs ts ≡ true → function_at C bs p ≡ accepted (record { parameters = ps; results = rs; body = e }) q
-function_reads C bs p b k w ps rs ts e r s q f z h c1 c2 u v x g =
-    let z' = eq-eqb b 0x20 z in
-    rw (f, z', h, c1, c2, u, v, x, g)
+-- A function whose parts were read before its body, which has its results' types or is at fault.
+module _ (C : Context) (bs : List ℕ) (p b k w : ℕ) (ps rs : List ℕ) (r s : ℕ) (f : first_at bs p ≡ accepted b k) (z : b ≡ 0x20) (h : whole 2 bs p ≡ accepted tt w) (c1 : few (body bs p 1) ≡ true) (c2 : few (body bs p 2) ≡ true) (u : uses_at (body bs p 1) (length C.rows + 2) bs w ≡ accepted ps r) (v : uses_at (body bs p 2) (length C.rows + 2) bs r ≡ accepted rs s) where
+  pub function_reads : (e : Expr) (q : ℕ) → expr C 100 bs ps s ≡ accepted (typed e rs) q → function_at C bs p ≡ accepted (record { parameters = ps; results = rs; body = e }) q
+  function_reads e q x =
+      let z' = eq-eqb b 0x20 z in
+      let g = same_refl rs in
+      rw (f, z', h, c1, c2, u, v, x, g)
+
+  pub function_fails : (e : Refusal) → Declines (after (expr C 100 bs ps s) (λ a q. judged (Clash p) (same rs a.types) a q)) e → Declines (function_at C bs p) e
+  function_fails e d =
+      let z' = eq-eqb b 0x20 z in
+      rw (f, z', h, c1, c2, u, v) (judged_else (expr C 100 bs ps s) (Clash p) (λ a. same rs a.types) (λ a. a) (λ a. record { parameters = ps; results = rs; body = a.tree }) e d)
 
 -- A module whose parts were read.
 pub module_reads : (bs : List ℕ) (b k w : ℕ) (rs : List Row) (fs : List Function) (r s : ℕ) → first_at bs 0 ≡ accepted b k → b ≡ 0x01 → whole 2 bs 0 ≡ accepted tt w → body bs 0 1 ≤ 60 → 1 ≤ body bs 0 2 → body bs 0 2 ≤ 60 → rows_at (body bs 0 1) bs [] w ≡ accepted rs r → functions_at (body bs 0 2) rs bs [] r ≡ accepted fs s → s ≡ length bs → module_at bs ≡ accepted (record { rows = rs; functions = fs }) s

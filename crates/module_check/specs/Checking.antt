@@ -9,14 +9,6 @@ use Rattle.language.specs.Tables.{TablesOf}
 use Rattle.verdict.specs.Outcomes.{accepted, refused}
 use Rattle.verdict.specs.Modules.{verdict}
 use Rattle.verdict.specs.Exactness.{Encodes}
-use Rattle.module_check.specs.declared.stop.Stop.{Stop}
-use Rattle.module_check.specs.declared.stop.Stop.TheVariants.{Declined}
-use Rattle.module_check.specs.declared.stop.Stop.TheVariants as stop
-
--- The refusal that stopping means.
-abbrev pub refusal_of : Stop → Refusal
-refusal_of (Declined w) = w
-refusal_of stop.Memory = Memory
 
 -- The holder has the tables of the module.
 abbrev pub Holds : Program → Module → Type 0

@@ -12,6 +12,9 @@ use Rattle.verdict.specs.declared.kinds.Head.{Head}
 use Rattle.verdict.specs.declared.kinds.Head.TheVariants as head
 use Rattle.module_check.specs.declared.scope.Scope.{Scope}
 use Rattle.module_check.specs.declared.tables.Tables.{Tables}
+use Rattle.module_check.specs.declared.scene.Scene.{Scene}
+use Rattle.values.specs.declared.row.Row.{Row}
+use Rattle.verdict.specs.Expressions.{Reads, Ends, expr, end}
 
 -- The types of the names in scope, the oldest first.
 abbrev pub names : Scope → List ℕ
@@ -29,6 +32,26 @@ context_of t = context (rows_of t.types) (seen_all (vec_items t.functions))
 
 abbrev pub counts_of : Tables → List ℕ
 counts_of t = result_counts (seen_all (vec_items t.functions))
+
+-- The same in a scene, with the rows and the names there.
+abbrev pub rows_in : Scene → List Row
+rows_in s = rows_of s.tables.now.types
+
+abbrev pub context_in : Scene → Context
+context_in s = context_of s.tables.now
+
+abbrev pub counts_in : Scene → List ℕ
+counts_in s = counts_of s.tables.now
+
+abbrev pub names_in : Scene → List ℕ
+names_in s = names s.scope.now
+
+-- What the verdict reads there as an expression, and as the end of a loop.
+abbrev pub expr_in : Scene → Reads
+expr_in s = expr (context_in s) s.room s.bytes.now
+
+abbrev pub end_in : Scene → Ends
+end_in s = end (context_in s) s.room s.bytes.now
 
 -- The kind that a record is noted with, by its head and the types of its values.
 abbrev pub kind_of : Head → List ℕ → Kind

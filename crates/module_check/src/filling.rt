@@ -1,21 +1,10 @@
 ghost use Rattle.std.specs.Prelude.{◌≡◌};
-ghost use Rattle.module_check.specs.Checking.{Checked, Means, refusal_of};
+ghost use Rattle.module_check.specs.Checking.{Checked, Means};
 
 use crate::reader::Reader;
-use crate::stop::Stop;
 use crate::tables::Tables;
 use language::Program;
 use values::{Refusal, Types};
-
-// The refusal that stopping means.
-fn refusal_of(stop: Stop) -> Refusal
-    ensures { result ≡ refusal_of stop }
-{
-    match stop {
-        Stop::Declined(refusal) => refusal,
-        Stop::Memory => Refusal::Memory,
-    }
-}
 
 // Reads bytes as a module. Where it passes, the holder has the module's tables; where it is refused, the holder stays
 // as it was.
@@ -35,10 +24,7 @@ pub fn check(program: &mut Program, bytes: &[u8]) -> Result<(), Refusal>
         at: 0,
         nodes: Vec::new(heap),
     };
-    match reader.module(bytes, &mut tables) {
-        Ok(()) => {}
-        Err(stop) => return Err(refusal_of(stop)),
-    }
+    reader.module(bytes, &mut tables)?;
     let Tables { types, functions } = tables;
     let Reader { at: _, nodes } = reader;
     *program = Program {

@@ -1,6 +1,5 @@
 ghost use Rattle.std.specs.Prelude.{◌≡◌, ◌+◌, [], ◌∷◌, nat_lt};
 ghost use Rattle.values.specs.Rows.{used};
-ghost use Rattle.language.specs.Sorts.{same};
 ghost use Rattle.verdict.specs.Judging.{every};
 
 use values::Members;
@@ -9,45 +8,14 @@ use values::Members;
 pub(crate) fn single(number: u8) -> Members
     ensures { used result ≡ number ∷ [] }
 {
-    match Members::new([number, 0, 0, 0, 0, 0, 0, 0], 1) {
-        Some(members) => members,
-        None => unreachable(),
-    }
-}
-
-// Whether two lists of types are the same.
-pub(crate) fn alike(a: Members, b: Members) -> bool
-    ensures { result ≡ same (used a) (used b) }
-{
-    if a.count() != b.count() {
-        return false;
-    }
-    for i in 0..a.count() {
-        let Some(x) = a.get(i) else {
-            return false;
-        };
-        let Some(y) = b.get(i) else {
-            return false;
-        };
-        if x != y {
-            return false;
-        }
-    }
-    true
+    Members::new([number, 0, 0, 0, 0, 0, 0, 0], 1).unwrap()
 }
 
 // Whether each type is this one.
 pub(crate) fn all_are(number: u8, a: Members) -> bool
     ensures { result ≡ every number (used a) }
 {
-    for i in 0..a.count() {
-        if let Some(x) = a.get(i) {
-            if x != number {
-                return false;
-            }
-        }
-    }
-    true
+    a.as_slice().iter().all(|&own| own == number)
 }
 
 // Whether a type is boolean, integer or one of so many rows.

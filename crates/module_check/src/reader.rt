@@ -9,7 +9,6 @@ pub struct Reader {
 
 mod bytes;
 mod functions;
-mod heads;
-mod judging;
+pub mod heads;
 mod parts;
 mod rows;

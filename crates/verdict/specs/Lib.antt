@@ -1,4 +1,5 @@
 pub mod Outcomes
+pub mod Kinds
 pub mod Bodies
 pub mod Judging
 pub mod Expressions

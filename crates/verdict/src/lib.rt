@@ -5,4 +5,4 @@ mod exactness;
 mod kinds;
 
 pub use exactness::exactness_stands;
-pub use kinds::{Head, Shape, Sort};
+pub use kinds::{Head, Shape, Sort, UnknownKind};

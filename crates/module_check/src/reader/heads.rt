@@ -1,17 +1,16 @@
-ghost use Rattle.std.specs.Prelude.{◌≡◌, ◌+◌, ◌<◌, length};
+ghost use Rattle.std.specs.Prelude.{◌≡◌, ◌+◌, ◌<◌, true, false, length, slice_index, MatchResult};
 ghost use Rattle.values.specs.Tables.{rows_of};
+ghost use Rattle.values.specs.declared.refusal.Refusal.TheVariants.{Undeclared};
 ghost use Rattle.verdict.specs.Outcomes.{lookup};
 ghost use Rattle.verdict.specs.Bodies.{operations, operators, number_from, fault_if, list_head, integer_head, boolean_head, error_head, name_head, operation_head, tagcase_head, for_head, forall_head, call_head, record_head, field_head, union_head, array_head, head_at};
-ghost use Rattle.language.specs.Sorts.{has_fault, element_of, fields_of, tags_of, element_in, fields_in, tags_in};
+ghost use Rattle.language.specs.Sorts.{declared, has_fault, element_of, fields_of, tags_of, element_in, fields_in, tags_in};
 ghost use Rattle.numbers.specs.Faults.{of_code};
-ghost use Rattle.module_check.specs.Views.{names, context_of};
-ghost use Rattle.module_check.specs.Reading.{Plain, Forward, Fits, Listed};
+ghost use Rattle.module_check.specs.Views.{rows_in, context_in, names_in};
+ghost use Rattle.module_check.specs.Reading.{Taken, Listed};
 
 use crate::lists::is_declared;
 use crate::reader::Reader;
-use crate::scope::Scope;
-use crate::stop::Stop;
-use crate::tables::Tables;
+use crate::scene::Scene;
 use language::{Binary, Leaf, Merge, One, Two, Unary};
 use merging::{BooleanMerge, IntegerMerge};
 use numbers::{Fault, Number};
@@ -71,13 +70,10 @@ fn operator_of(code: u8) -> Option<Head>
 }
 
 // The number that four bytes say, if it is a proper one.
-fn number_from(a: u8, b: u8, c: u8, d: u8) -> Option<Number>
-    ensures { result ≡ number_from a b c d }
+fn number_from(bytes: [u8; 4]) -> Option<Number>
+    ensures { result ≡ number_from (slice_index bytes 0) (slice_index bytes 1) (slice_index bytes 2) (slice_index bytes 3) }
 {
-    match Number::new(i32::from_be_bytes([a, b, c, d])) {
-        Some(number) => Some(number),
-        None => None,
-    }
+    Number::new(i32::from_be_bytes(bytes))
 }
 
 // Whether an error value is one of a type.
@@ -94,24 +90,17 @@ pub(crate) fn has_fault(number: u8, fault: Fault) -> bool
 fn fault_of(number: u8, code: u8) -> Option<Fault>
     ensures { result ≡ fault_if number (of_code code) }
 {
-    match Fault::from_code(code) {
-        Some(fault) => {
-            if has_fault(number, fault) {
-                Some(fault)
-            } else {
-                None
-            }
-        }
-        None => None,
-    }
+    Fault::try_from(code)
+        .ok()
+        .filter(|fault| has_fault(number, *fault))
 }
 
 // The type of an array row's elements.
 pub(crate) fn element_of(types: &Types, number: u8) -> Option<u8>
     ensures { result ≡ element_of (rows_of types.now) number }
 {
-    match types.row(number) {
-        Some(Row::Array(element)) => Some(element),
+    match types.row(number)? {
+        Row::Array(element) => Some(element),
         _ => None,
     }
 }
@@ -120,10 +109,7 @@ pub(crate) fn element_of(types: &Types, number: u8) -> Option<u8>
 pub(crate) fn fields_of(types: &Types, number: u8) -> Option<Members>
     ensures { Listed (fields_of (rows_of types.now) number) result }
 {
-    let Some(row) = types.row(number) else {
-        return None;
-    };
-    match row {
+    match types.row(number)? {
         Row::Record(members) => Some(members),
         _ => None,
     }
@@ -133,300 +119,191 @@ pub(crate) fn fields_of(types: &Types, number: u8) -> Option<Members>
 pub(crate) fn tags_of(types: &Types, number: u8) -> Option<Members>
     ensures { Listed (tags_of (rows_of types.now) number) result }
 {
-    let Some(row) = types.row(number) else {
-        return None;
-    };
-    match row {
+    match types.row(number)? {
         Row::Union(members) => Some(members),
         _ => None,
     }
 }
 
+// A type that the record at start names must be there.
+fn declared(scene: &Scene, number: u8, start: usize) -> Result<(), Refusal>
+    ensures { MatchResult result (λ _. declared (rows_in scene.now) number ≡ true) (λ e. (declared (rows_in scene.now) number ≡ false) × (e ≡ Undeclared start)) }
+{
+    if is_declared(number, scene.tables.types.len()) {
+        Ok(())
+    } else {
+        Err(Refusal::Undeclared(start))
+    }
+}
+
 impl Reader {
-    fn list_head(&mut self, bytes: &[u8], start: usize) -> Result<Head, Stop>
-        requires { (self.old.at ≡ start) × (start < length bytes.now) }
-        ensures kept { self.new.nodes ≡ self.old.nodes }
-        ensures forward { Forward start self.new.at result }
-        ensures reads { Plain (list_head bytes.now start) self.new.at result }
-        ensures fits { Fits result }
+    fn list_head(&mut self, bytes: &[u8]) -> Result<Head, Refusal>
+        ensures { Taken (list_head bytes.now self.old.at) self.old self.new result }
     {
-        self.whole(bytes, start, 1)?;
-        let count = bytes[start + 1];
-        if 2 <= count && count <= 8 {
-            Ok(Head::List(count))
-        } else {
-            Err(Stop::Declined(Refusal::Strange(start)))
-        }
+        self.count(bytes, 2).map(Head::List)
     }
 
-    fn integer_head(&mut self, bytes: &[u8], start: usize) -> Result<Head, Stop>
-        requires { (self.old.at ≡ start) × (start < length bytes.now) }
-        ensures kept { self.new.nodes ≡ self.old.nodes }
-        ensures forward { Forward start self.new.at result }
-        ensures reads { Plain (integer_head bytes.now start) self.new.at result }
-        ensures fits { Fits result }
+    fn tagcase_head(&mut self, bytes: &[u8]) -> Result<Head, Refusal>
+        ensures { Taken (tagcase_head bytes.now self.old.at) self.old self.new result }
     {
-        self.whole(bytes, start, 4)?;
-        let number = number_from(
-            bytes[start + 1],
-            bytes[start + 2],
-            bytes[start + 3],
-            bytes[start + 4],
-        );
-        match number {
-            Some(number) => Ok(Head::Leaf(Leaf::Integer(number), 1)),
-            None => Err(Stop::Declined(Refusal::Strange(start))),
-        }
+        self.count(bytes, 1).map(Head::Tagcase)
     }
 
-    fn boolean_head(&mut self, bytes: &[u8], start: usize) -> Result<Head, Stop>
-        requires { (self.old.at ≡ start) × (start < length bytes.now) }
-        ensures kept { self.new.nodes ≡ self.old.nodes }
-        ensures forward { Forward start self.new.at result }
-        ensures reads { Plain (boolean_head bytes.now start) self.new.at result }
-        ensures fits { Fits result }
+    fn integer_head(&mut self, bytes: &[u8]) -> Result<Head, Refusal>
+        ensures { Taken (integer_head bytes.now self.old.at) self.old self.new result }
     {
-        self.whole(bytes, start, 1)?;
-        let value = bytes[start + 1];
+        let start = self.at;
+        let number = number_from(self.body(bytes)?).ok_or(Refusal::Strange(start))?;
+        Ok(Head::Leaf(Leaf::Integer(number), 1))
+    }
+
+    fn boolean_head(&mut self, bytes: &[u8]) -> Result<Head, Refusal>
+        ensures { Taken (boolean_head bytes.now self.old.at) self.old self.new result }
+    {
+        let start = self.at;
+        let [value] = self.body::<1>(bytes)?;
         if value < 2 {
             Ok(Head::Leaf(Leaf::Boolean(value == 1), 0))
         } else {
-            Err(Stop::Declined(Refusal::Strange(start)))
+            Err(Refusal::Strange(start))
         }
     }
 
-    fn error_head(&mut self, bytes: &[u8], types: &Types, start: usize) -> Result<Head, Stop>
-        requires { (self.old.at ≡ start) × (start < length bytes.now) }
-        ensures kept { self.new.nodes ≡ self.old.nodes }
-        ensures forward { Forward start self.new.at result }
-        ensures reads { Plain (error_head (rows_of types.now) bytes.now start) self.new.at result }
-        ensures fits { Fits result }
+    fn error_head(&mut self, scene: &Scene) -> Result<Head, Refusal>
+        ensures { Taken (error_head (rows_in scene.now) scene.now.bytes.now self.old.at) self.old self.new result }
     {
-        self.whole(bytes, start, 2)?;
-        let number = bytes[start + 2];
-        if !is_declared(number, types.len()) {
-            return Err(Stop::Declined(Refusal::Undeclared(start)));
-        }
-        match fault_of(number, bytes[start + 1]) {
-            Some(fault) => Ok(Head::Leaf(Leaf::Error(fault, number), number)),
-            None => Err(Stop::Declined(Refusal::Clash(start))),
-        }
+        let start = self.at;
+        let [code, number] = self.body::<2>(scene.bytes)?;
+        declared(scene, number, start)?;
+        let fault = fault_of(number, code).ok_or(Refusal::Clash(start))?;
+        Ok(Head::Leaf(Leaf::Error(fault, number), number))
     }
 
-    fn name_head(&mut self, bytes: &[u8], scope: &Scope, start: usize) -> Result<Head, Stop>
-        requires { (self.old.at ≡ start) × (start < length bytes.now) }
-        ensures kept { self.new.nodes ≡ self.old.nodes }
-        ensures forward { Forward start self.new.at result }
-        ensures reads { Plain (name_head bytes.now (names scope.now) start) self.new.at result }
-        ensures fits { Fits result }
+    fn name_head(&mut self, scene: &Scene) -> Result<Head, Refusal>
+        ensures { Taken (name_head scene.now.bytes.now (names_in scene.now) self.old.at) self.old self.new result }
     {
-        self.whole(bytes, start, 1)?;
-        let name = bytes[start + 1];
-        match scope.find(name) {
-            Some(number) => Ok(Head::Leaf(Leaf::Name(name), number)),
-            None => Err(Stop::Declined(Refusal::Undeclared(start))),
-        }
+        let start = self.at;
+        let [name] = self.body::<1>(scene.bytes)?;
+        let number = scene.scope.find(name).ok_or(Refusal::Undeclared(start))?;
+        Ok(Head::Leaf(Leaf::Name(name), number))
     }
 
-    fn operation_head(&mut self, bytes: &[u8], start: usize) -> Result<Head, Stop>
-        requires { (self.old.at ≡ start) × (start < length bytes.now) }
-        ensures kept { self.new.nodes ≡ self.old.nodes }
-        ensures forward { Forward start self.new.at result }
-        ensures reads { Plain (operation_head bytes.now start) self.new.at result }
-        ensures fits { Fits result }
+    fn operation_head(&mut self, bytes: &[u8]) -> Result<Head, Refusal>
+        ensures { Taken (operation_head bytes.now self.old.at) self.old self.new result }
     {
-        self.whole(bytes, start, 1)?;
-        match operation_of(bytes[start + 1]) {
-            Some(head) => Ok(head),
-            None => Err(Stop::Declined(Refusal::Strange(start))),
-        }
+        let start = self.at;
+        let [code] = self.body::<1>(bytes)?;
+        operation_of(code).ok_or(Refusal::Strange(start))
     }
 
-    fn tagcase_head(&mut self, bytes: &[u8], start: usize) -> Result<Head, Stop>
-        requires { (self.old.at ≡ start) × (start < length bytes.now) }
-        ensures kept { self.new.nodes ≡ self.old.nodes }
-        ensures forward { Forward start self.new.at result }
-        ensures reads { Plain (tagcase_head bytes.now start) self.new.at result }
-        ensures fits { Fits result }
+    fn for_head(&mut self, scene: &Scene) -> Result<Head, Refusal>
+        ensures { Taken (for_head (rows_in scene.now) scene.now.bytes.now self.old.at) self.old self.new result }
     {
-        self.whole(bytes, start, 1)?;
-        let arms = bytes[start + 1];
-        if 1 <= arms && arms <= 8 {
-            Ok(Head::Tagcase(arms))
-        } else {
-            Err(Stop::Declined(Refusal::Strange(start)))
-        }
-    }
-
-    fn for_head(&mut self, bytes: &[u8], types: &Types, start: usize) -> Result<Head, Stop>
-        requires { (self.old.at ≡ start) × (start < length bytes.now) }
-        ensures kept { self.new.nodes ≡ self.old.nodes }
-        ensures forward { Forward start self.new.at result }
-        ensures reads { Plain (for_head (rows_of types.now) bytes.now start) self.new.at result }
-        ensures fits { Fits result }
-    {
-        self.whole(bytes, start, 1)?;
-        let results = bytes[start + 1];
-        if !(1 <= results && results <= 8) {
-            return Err(Stop::Declined(Refusal::Strange(start)));
-        }
-        let members = self.uses(bytes, results, types.len())?;
+        let results = self.count(scene.bytes, 1)?;
+        let members = self.uses(scene.bytes, results, scene.tables.types.len())?;
         Ok(Head::For(members))
     }
 
-    fn forall_head(&mut self, bytes: &[u8], types: &Types, start: usize) -> Result<Head, Stop>
-        requires { (self.old.at ≡ start) × (start < length bytes.now) }
-        ensures kept { self.new.nodes ≡ self.old.nodes }
-        ensures forward { Forward start self.new.at result }
-        ensures reads { Plain (forall_head (rows_of types.now) bytes.now start) self.new.at result }
-        ensures fits { Fits result }
+    fn forall_head(&mut self, scene: &Scene) -> Result<Head, Refusal>
+        ensures { Taken (forall_head (rows_in scene.now) scene.now.bytes.now self.old.at) self.old self.new result }
     {
-        self.whole(bytes, start, 2)?;
-        let number = bytes[start + 2];
-        if bytes[start + 1] == 0 {
-            if !is_declared(number, types.len()) {
-                return Err(Stop::Declined(Refusal::Undeclared(start)));
-            }
-            return match element_of(types, number) {
-                Some(element) => Ok(Head::Forall(Merge::Collect(number), element)),
-                None => Err(Stop::Declined(Refusal::Clash(start))),
-            };
+        let start = self.at;
+        let [operator, number] = self.body::<2>(scene.bytes)?;
+        if operator == 0 {
+            declared(scene, number, start)?;
+            let element = element_of(&scene.tables.types, number).ok_or(Refusal::Clash(start))?;
+            return Ok(Head::Forall(Merge::Collect(number), element));
         }
-        match operator_of(bytes[start + 1]) {
+        match operator_of(operator) {
             Some(head) if number == 0 => Ok(head),
-            _ => Err(Stop::Declined(Refusal::Strange(start))),
+            _ => Err(Refusal::Strange(start)),
         }
     }
 
-    fn call_head(&mut self, bytes: &[u8], tables: &Tables, start: usize) -> Result<Head, Stop>
-        requires { (self.old.at ≡ start) × (start < length bytes.now) }
-        ensures kept { self.new.nodes ≡ self.old.nodes }
-        ensures forward { Forward start self.new.at result }
-        ensures reads { Plain (call_head (context_of tables.now) bytes.now start) self.new.at result }
-        ensures fits { Fits result }
+    fn call_head(&mut self, scene: &Scene) -> Result<Head, Refusal>
+        ensures { Taken (call_head (context_in scene.now) scene.now.bytes.now self.old.at) self.old self.new result }
     {
-        self.whole(bytes, start, 1)?;
-        let function = bytes[start + 1];
-        if (function as usize) < tables.functions.len() {
+        let start = self.at;
+        let [function] = self.body::<1>(scene.bytes)?;
+        if (function as usize) < scene.tables.functions.len() {
             Ok(Head::One(One::Call(function)))
         } else {
-            Err(Stop::Declined(Refusal::Undeclared(start)))
+            Err(Refusal::Undeclared(start))
         }
     }
 
-    fn record_head(&mut self, bytes: &[u8], types: &Types, start: usize) -> Result<Head, Stop>
-        requires { (self.old.at ≡ start) × (start < length bytes.now) }
-        ensures kept { self.new.nodes ≡ self.old.nodes }
-        ensures forward { Forward start self.new.at result }
-        ensures reads { Plain (record_head (rows_of types.now) bytes.now start) self.new.at result }
-        ensures fits { Fits result }
+    fn record_head(&mut self, scene: &Scene) -> Result<Head, Refusal>
+        ensures { Taken (record_head (rows_in scene.now) scene.now.bytes.now self.old.at) self.old self.new result }
     {
-        self.whole(bytes, start, 1)?;
-        let number = bytes[start + 1];
-        if !is_declared(number, types.len()) {
-            return Err(Stop::Declined(Refusal::Undeclared(start)));
-        }
-        match fields_of(types, number) {
-            Some(_) => Ok(Head::One(One::Record(number))),
-            None => Err(Stop::Declined(Refusal::Clash(start))),
-        }
+        let start = self.at;
+        let [number] = self.body::<1>(scene.bytes)?;
+        declared(scene, number, start)?;
+        fields_of(&scene.tables.types, number).ok_or(Refusal::Clash(start))?;
+        Ok(Head::One(One::Record(number)))
     }
 
-    fn field_head(&mut self, bytes: &[u8], start: usize) -> Result<Head, Stop>
-        requires { (self.old.at ≡ start) × (start < length bytes.now) }
-        ensures kept { self.new.nodes ≡ self.old.nodes }
-        ensures forward { Forward start self.new.at result }
-        ensures reads { Plain (field_head bytes.now start) self.new.at result }
-        ensures fits { Fits result }
+    fn field_head(&mut self, bytes: &[u8]) -> Result<Head, Refusal>
+        ensures { Taken (field_head bytes.now self.old.at) self.old self.new result }
     {
-        self.whole(bytes, start, 1)?;
-        Ok(Head::One(One::Field(bytes[start + 1])))
+        let [field] = self.body::<1>(bytes)?;
+        Ok(Head::One(One::Field(field)))
     }
 
-    fn union_head(&mut self, bytes: &[u8], types: &Types, start: usize) -> Result<Head, Stop>
-        requires { (self.old.at ≡ start) × (start < length bytes.now) }
-        ensures kept { self.new.nodes ≡ self.old.nodes }
-        ensures forward { Forward start self.new.at result }
-        ensures reads { Plain (union_head (rows_of types.now) bytes.now start) self.new.at result }
-        ensures fits { Fits result }
+    fn union_head(&mut self, scene: &Scene) -> Result<Head, Refusal>
+        ensures { Taken (union_head (rows_in scene.now) scene.now.bytes.now self.old.at) self.old self.new result }
     {
-        self.whole(bytes, start, 2)?;
-        let number = bytes[start + 1];
-        let tag = bytes[start + 2];
-        if !is_declared(number, types.len()) {
-            return Err(Stop::Declined(Refusal::Undeclared(start)));
-        }
-        let Some(constituents) = tags_of(types, number) else {
-            return Err(Stop::Declined(Refusal::Clash(start)));
-        };
-        match constituents.get(tag) {
-            Some(_) => Ok(Head::One(One::Union(number, tag))),
-            None => Err(Stop::Declined(Refusal::Undeclared(start))),
-        }
+        let start = self.at;
+        let [number, tag] = self.body::<2>(scene.bytes)?;
+        declared(scene, number, start)?;
+        let constituents = tags_of(&scene.tables.types, number).ok_or(Refusal::Clash(start))?;
+        constituents.get(tag).ok_or(Refusal::Undeclared(start))?;
+        Ok(Head::One(One::Union(number, tag)))
     }
 
-    fn array_head(&mut self, bytes: &[u8], types: &Types, start: usize) -> Result<Head, Stop>
-        requires { (self.old.at ≡ start) × (start < length bytes.now) }
-        ensures kept { self.new.nodes ≡ self.old.nodes }
-        ensures forward { Forward start self.new.at result }
-        ensures reads { Plain (array_head (rows_of types.now) bytes.now start) self.new.at result }
-        ensures fits { Fits result }
+    fn array_head(&mut self, scene: &Scene) -> Result<Head, Refusal>
+        ensures { Taken (array_head (rows_in scene.now) scene.now.bytes.now self.old.at) self.old self.new result }
     {
-        self.whole(bytes, start, 1)?;
-        let number = bytes[start + 1];
-        if !is_declared(number, types.len()) {
-            return Err(Stop::Declined(Refusal::Undeclared(start)));
-        }
-        match element_of(types, number) {
-            Some(_) => Ok(Head::Two(Two::Array(number))),
-            None => Err(Stop::Declined(Refusal::Clash(start))),
-        }
+        let start = self.at;
+        let [number] = self.body::<1>(scene.bytes)?;
+        declared(scene, number, start)?;
+        element_of(&scene.tables.types, number).ok_or(Refusal::Clash(start))?;
+        Ok(Head::Two(Two::Array(number)))
     }
 
-    // What the record at start says before its parts.
-    pub(crate) fn head(
-        &mut self,
-        bytes: &[u8],
-        tables: &Tables,
-        scope: &Scope,
-        sort: Sort,
-        start: usize,
-    ) -> Result<Head, Stop>
-        requires { (self.old.at ≡ start) × (start < length bytes.now) }
-        ensures kept { self.new.nodes ≡ self.old.nodes }
-        ensures forward { Forward start self.new.at result }
-        ensures reads { Plain (head_at (context_of tables.now) bytes.now (names scope.now) sort start) self.new.at result }
-        ensures fits { Fits result }
+    // What the record that begins here says before its parts.
+    pub(crate) fn head(&mut self, scene: &Scene, sort: Sort) -> Result<Head, Refusal>
+        requires { self.old.at < length scene.now.bytes.now }
+        ensures { Taken (head_at (context_in scene.now) scene.now.bytes.now (names_in scene.now) sort self.old.at) self.old self.new result }
     {
         match sort {
-            Sort::List => self.list_head(bytes, start),
-            Sort::Integer => self.integer_head(bytes, start),
-            Sort::Boolean => self.boolean_head(bytes, start),
-            Sort::Error => self.error_head(bytes, &tables.types, start),
-            Sort::Name => self.name_head(bytes, scope, start),
-            Sort::Operation => self.operation_head(bytes, start),
+            Sort::List => self.list_head(scene.bytes),
+            Sort::Integer => self.integer_head(scene.bytes),
+            Sort::Boolean => self.boolean_head(scene.bytes),
+            Sort::Error => self.error_head(scene),
+            Sort::Name => self.name_head(scene),
+            Sort::Operation => self.operation_head(scene.bytes),
             Sort::If => {
-                self.at = start + 1;
+                self.at += 1;
                 Ok(Head::If)
             }
             Sort::Let => {
-                self.at = start + 1;
+                self.at += 1;
                 Ok(Head::Let)
             }
-            Sort::Tagcase => self.tagcase_head(bytes, start),
-            Sort::For => self.for_head(bytes, &tables.types, start),
+            Sort::Tagcase => self.tagcase_head(scene.bytes),
+            Sort::For => self.for_head(scene),
             Sort::Iter => {
-                self.at = start + 1;
+                self.at += 1;
                 Ok(Head::Iter)
             }
-            Sort::Forall => self.forall_head(bytes, &tables.types, start),
-            Sort::Call => self.call_head(bytes, tables, start),
-            Sort::Record => self.record_head(bytes, &tables.types, start),
-            Sort::Field => self.field_head(bytes, start),
-            Sort::Union => self.union_head(bytes, &tables.types, start),
-            Sort::Array => self.array_head(bytes, &tables.types, start),
+            Sort::Forall => self.forall_head(scene),
+            Sort::Call => self.call_head(scene),
+            Sort::Record => self.record_head(scene),
+            Sort::Field => self.field_head(scene.bytes),
+            Sort::Union => self.union_head(scene),
+            Sort::Array => self.array_head(scene),
             Sort::Element => {
-                self.at = start + 1;
+                self.at += 1;
                 Ok(Head::Two(Two::Element))
             }
         }

@@ -1,134 +1,79 @@
 ghost use Rattle.std.specs.Prelude.{◌≡◌, ◌+◌, ◌<◌, ◌≤◌, length};
 ghost use Rattle.values.specs.Tables.{rows_of};
-ghost use Rattle.language.specs.Sorts.{twins, has_twin};
-ghost use Rattle.verdict.specs.Outcomes.{lookup};
-ghost use Rattle.verdict.specs.Modules.{shapes, counted_uses, shaped, row_at, rows_at};
-ghost use Rattle.module_check.specs.Reading.{Plain, UsesRead, Forward, RowsRead};
+ghost use Rattle.language.specs.Sorts.{has_twin};
+ghost use Rattle.verdict.specs.Modules.{counted_uses, shaped, row_at, rows_at};
+ghost use Rattle.module_check.specs.Reading.{Plain, UsesRead, RowsRead};
 
-use crate::lists::alike;
+use crate::parent::judging::lead;
 use crate::reader::Reader;
-use crate::reader::judging::lead;
-use crate::stop::Stop;
 use crate::tables::Tables;
 use values::{Members, Refusal, Row, Types};
 use verdict::Shape;
-
-// The kind of a row by its byte.
-fn shape_of(byte: u8) -> Option<Shape>
-    ensures { result ≡ lookup shapes byte }
-{
-    match byte {
-        0x12 => Some(Shape::Array),
-        0x13 => Some(Shape::Record),
-        0x14 => Some(Shape::Union),
-        _ => None,
-    }
-}
-
-// Whether two rows are of one kind and use the same types.
-fn are_twins(first: Row, second: Row) -> bool
-    ensures { result ≡ twins first second }
-{
-    match first {
-        Row::Array(a) => match second {
-            Row::Array(b) => a == b,
-            _ => false,
-        },
-        Row::Record(a) => match second {
-            Row::Record(b) => alike(a, b),
-            _ => false,
-        },
-        Row::Union(a) => match second {
-            Row::Union(b) => alike(a, b),
-            _ => false,
-        },
-    }
-}
 
 // Whether the table has a twin of a row.
 fn is_twin(types: &Types, row: Row) -> bool
     ensures { result ≡ has_twin (rows_of types.now) row }
 {
-    for number in 2..62 {
-        let Some(earlier) = types.row(number) else {
-            return false;
-        };
-        if are_twins(earlier, row) {
-            return true;
-        }
-    }
-    false
+    types.as_slice().contains(&row)
 }
 
 impl Reader {
-    // One to eight uses behind their count, in the record at start.
-    fn counted(&mut self, bytes: &[u8], rows: usize, start: usize) -> Result<Members, Stop>
-        requires { (self.old.at ≡ start) × (start < length bytes.now) }
+    // One to eight uses behind their count.
+    fn counted(&mut self, bytes: &[u8], rows: usize) -> Result<Members, Refusal>
         ensures kept { self.new.nodes ≡ self.old.nodes }
-        ensures reads { UsesRead (counted_uses (rows + 2) bytes.now start) self.new.at result }
+        ensures reads { UsesRead (counted_uses (rows + 2) bytes.now self.old.at) self.new.at result }
     {
-        self.whole(bytes, start, 1)?;
-        let count = bytes[start + 1];
-        if !(1 <= count && count <= 8) {
-            return Err(Stop::Declined(Refusal::Strange(start)));
-        }
-        let members = self.uses(bytes, count, rows)?;
-        Ok(members)
+        let count = self.count(bytes, 1)?;
+        self.uses(bytes, count, rows)
     }
 
-    // A row of this kind behind so many.
-    fn shaped(&mut self, bytes: &[u8], shape: Shape, rows: usize, start: usize) -> Result<Row, Stop>
-        requires { (self.old.at ≡ start) × (start < length bytes.now) }
+    // The row of this kind that begins here, behind so many.
+    fn shaped(&mut self, bytes: &[u8], shape: Shape, rows: usize) -> Result<Row, Refusal>
+        requires { self.old.at < length bytes.now }
         ensures kept { self.new.nodes ≡ self.old.nodes }
-        ensures reads { Plain (shaped shape (rows + 2) bytes.now start) self.new.at result }
+        ensures reads { Plain (shaped shape (rows + 2) bytes.now self.old.at) self.new.at result }
     {
         match shape {
             Shape::Array => {
-                self.at = start + 1;
+                self.at += 1;
                 let element = self.uses(bytes, 1, rows)?;
                 Ok(Row::Array(lead(element)))
             }
-            Shape::Record => {
-                let members = self.counted(bytes, rows, start)?;
-                Ok(Row::Record(members))
-            }
-            Shape::Union => {
-                let members = self.counted(bytes, rows, start)?;
-                Ok(Row::Union(members))
-            }
+            Shape::Record => Ok(Row::Record(self.counted(bytes, rows)?)),
+            Shape::Union => Ok(Row::Union(self.counted(bytes, rows)?)),
         }
     }
 
     // The next row of a table.
-    fn row(&mut self, bytes: &[u8], types: &Types) -> Result<Row, Stop>
+    fn row(&mut self, bytes: &[u8], types: &Types) -> Result<Row, Refusal>
         ensures kept { self.new.nodes ≡ self.old.nodes }
         ensures reads { Plain (row_at bytes.now (rows_of types.now) self.old.at) self.new.at result }
     {
         let start = self.at;
         let byte = self.first(bytes)?;
-        let Some(shape) = shape_of(byte) else {
-            return Err(Stop::Declined(Refusal::Strange(start)));
-        };
-        let row = self.shaped(bytes, shape, types.len(), start)?;
+        let shape = Shape::try_from(byte).map_err(|_| Refusal::Strange(start))?;
+        let row = self.shaped(bytes, shape, types.len())?;
         if is_twin(types, row) {
-            return Err(Stop::Declined(Refusal::Twin(start)));
+            return Err(Refusal::Twin(start));
         }
         Ok(row)
     }
 
     // So many rows, behind those of the table.
-    pub(crate) fn rows(&mut self, bytes: &[u8], tables: &mut Tables, count: u8) -> Result<(), Stop>
+    pub(crate) fn rows(
+        &mut self,
+        bytes: &[u8],
+        tables: &mut Tables,
+        count: u8,
+    ) -> Result<(), Refusal>
         ensures kept { self.new.nodes ≡ self.old.nodes }
         ensures functions { tables.new.functions ≡ tables.old.functions }
         ensures reads { RowsRead (rows_at count bytes.now (rows_of tables.old.types) self.old.at) (rows_of tables.new.types) self.new.at result }
     {
-        for _i in 0..count {
+        for _ in 0..count {
             let row = self.row(bytes, &tables.types)?;
             // The row fits: only memory can be wanting.
-            match tables.types.push(row) {
-                Ok(_) => {}
-                Err(_) => return Err(Stop::Memory),
-            }
+            tables.types.push(row).map_err(|_| Refusal::Memory)?;
         }
         Ok(())
     }

@@ -1,4 +1,4 @@
-ghost use Rattle.std.specs.Prelude.{◌≡◌, ◌+◌, ◌<◌, ◌≤◌, [], ◌∷◌, ◌++◌, length, MatchOption};
+ghost use Rattle.std.specs.Prelude.{◌≡◌, ◌+◌, ◌<◌, ◌≤◌, ◌↔◌, [], ◌∷◌, ◌++◌, length, IsTrue, MatchOption};
 ghost use Rattle.std.specs.List.{slice_get};
 ghost use Rattle.values.specs.Rows.{used};
 ghost use Rattle.module_check.specs.Views.{names};
@@ -21,43 +21,39 @@ impl Scope {
     pub(crate) fn find(&self, name: u8) -> Option<u8>
         ensures { result ≡ slice_get (names self.now) name }
     {
-        let at = name as usize;
-        if at < self.count {
-            Some(self.types[at])
-        } else {
-            None
-        }
+        self.types[..self.count].get(name as usize).copied()
     }
 
-    // The scope with one more name, if there is room for it.
-    pub(crate) fn with(&self, name: u8) -> Option<Scope>
-        ensures { MatchOption result (96 < length (names self.now) + 1) (λ s. (length (names self.now) < 96) × (names s ≡ names self.now ++ name ∷ [])) }
+    // Whether there is no room for one more name.
+    pub(crate) fn is_full(&self) -> bool
+        ensures { IsTrue result ↔ (96 ≤ length (names self.now)) }
     {
-        if self.count >= 96 {
-            return None;
-        }
+        self.count >= 96
+    }
+
+    // The scope with one more name.
+    pub(crate) fn with(&self, name: u8) -> Scope
+        requires { length (names self.now) < 96 }
+        ensures { names result ≡ names self.now ++ name ∷ [] }
+    {
         let mut types = self.types;
         types[self.count] = name;
-        Some(Scope {
+        Scope {
             types,
             count: self.count + 1,
-        })
+        }
     }
 
     // The scope with more names, if there is room for them.
     pub(crate) fn with_all(&self, more: Members) -> Option<Scope>
         ensures { MatchOption result (96 < length (names self.now) + length (used more)) (λ s. (length (names self.now) + length (used more) ≤ 96) × (names s ≡ names self.now ++ used more)) }
     {
-        let mut scope = *self;
-        for i in 0..more.count() {
-            let Some(name) = more.get(i) else {
-                return None;
-            };
-            let Some(larger) = scope.with(name) else {
-                return None;
-            };
-            scope = larger;
+        let count = self.count + more.as_slice().len();
+        if count > 96 {
+            return None;
         }
-        Some(scope)
+        let mut types = self.types;
+        types[self.count..count].copy_from_slice(more.as_slice());
+        Some(Scope { types, count })
     }
 }

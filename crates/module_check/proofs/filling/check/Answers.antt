@@ -1,44 +1,34 @@
-use Rattle.std.proofs.Common.{◌≡◌, ◌⊎◌, length, Err, sym, refl, subst, inr, arith}
-use Rattle.values.specs.declared.refusal.Refusal.TheVariants.{Memory, Oversize}
-use Rattle.verdict.specs.Outcomes.{refused}
-use Rattle.verdict.specs.Modules.{verdict}
+use Rattle.std.proofs.Common.{length, Err, sym, refl, subst, inr, arith}
+use Rattle.std.proofs.lemmas.Result.{err_from_is_err_and}
 use Rattle.verdict.specs.Exactness.{Bytes}
 use Rattle.verdict.proofs.Exact.{exact}
+use Rattle.module_check.specs.Reading.{Declines}
 use Rattle.module_check.specs.Checking.{Checked}
-use Rattle.module_check.proofs.Meaning.{many_bytes, stopped, passed, meaning}
+use Rattle.module_check.proofs.Meaning.{few_bytes, passed, meaning}
 use Rattle.module_check.proofs.filling.check.Goals as goal
 
-pub returns-then-bytes-gt16384 : goal.returns-then-bytes-gt16384
-returns-then-bytes-gt16384 c =
+pub returns-in_err-module-clause-means : goal.returns-in_err-module-clause-means
+returns-in_err-module-clause-means c =
     let bs = c.args.bytes.now in
     let bytes : Bytes bs = λ i. omega (arith, c.type_inv.bytes i) in
     let p = c.args.program.now in
-    let all : Checked bs p p (Err Oversize) = (refl, inr (many_bytes bs c.if-bytes-gt16384.true)) in
-    record { checked = all; means = meaning bs bytes p p (Err Oversize) all }
-
-pub returns-in-Err : goal.returns-in-Err
-returns-in-Err c =
-    let bs = c.args.bytes.now in
-    let bytes : Bytes bs = λ i. omega (arith, c.type_inv.bytes i) in
-    let p = c.args.program.now in
-    let r = c.refusal_of.result in
-    let why : (r ≡ Memory) ⊎ (verdict bs ≡ refused r) =
-    subst (λ w. (w ≡ Memory) ⊎ (verdict bs ≡ refused w)) (sym c.refusal_of.ensures) (stopped bs c.in-Err.stop c.if-bytes-gt16384.false c.in-Err.ensures) in
-    let all : Checked bs p p (Err r) = (refl, why) in
-    record { checked = all; means = meaning bs bytes p p (Err r) all }
+    let w = c.in_err-module.field-0.0 in
+    let e = err_from_is_err_and c.from_residual.result c.from_residual.ensures.1 in
+    let all : Checked bs p p (Err w) = (refl, subst (λ o. Declines o w) (sym (few_bytes bs c.if-bytes-gt16384.false)) c.in_err-module.ensures) in
+    rw (e.1, e.2) (meaning bs bytes p p (Err w) all)
 
 -- The holder has the tables of a well-typed module.
 pub invariant_of-drop : goal.invariant_of-drop
 invariant_of-drop c =
     let bs = c.args.bytes.now in
     let bytes : Bytes bs = λ i. omega (arith, c.type_inv.bytes i) in
-    let M = c.in-Ok.ensures in
+    let M = c.in_ok-module.ensures in
     record { lawful = ∣ inr (M.0, (passed bs bytes c.if-bytes-gt16384.false M.0 M.1 M.2).1, M.3) ∣₁ }
 
-pub returns : goal.returns
-returns c =
+pub returns-clause-means : goal.returns-clause-means
+returns-clause-means c =
     let bs = c.args.bytes.now in
     let bytes : Bytes bs = λ i. omega (arith, c.type_inv.bytes i) in
-    let M = c.in-Ok.ensures in
+    let M = c.in_ok-module.ensures in
     let v = passed bs bytes c.if-bytes-gt16384.false M.0 M.1 M.2 in
-    record { checked = (M.0, v.0, M.3); means = (M.0, (exact bs bytes M.0).0 (length bs, v.0), M.3) }
+    (M.0, (exact bs bytes M.0).0 (length bs, v.0), M.3)
