@@ -1,10 +1,11 @@
 -- Facts on lists of types that the reading functions share.
-use Rattle.std.proofs.Common.{◌≡◌, ℕ, ◌-◌, ◌<◌, ◌≤◌, Bool, true, false, ◌&&◌, List, [], ◌∷◌, ◌++◌, length, get_or, take, drop, replicate, Some, sym, refl, ap, ◌∙◌, ap₂, inl, inr, arith}
+use Rattle.std.proofs.Common.{◌≡◌, subst, ltb, ℕ, ◌-◌, ◌<◌, ◌≤◌, Bool, true, false, ◌&&◌, List, [], ◌∷◌, ◌++◌, length, get_or, take, drop, replicate, Some, sym, refl, ap, ◌∙◌, ap₂, inl, inr, arith}
 use lib.ListN.{length-replicate}
 use Rattle.std.specs.List.{slice_get}
 use Rattle.std.proofs.lemmas.List.{take_at, take_all, drop-replicate, length-map, get_or-map}
 use Rattle.std.proofs.lemmas.Option.{slice_get-get_or, slice_get_read}
 use Rattle.std.proofs.lemmas.Bool.Decides.{nat_tests}
+use borrow.Author.Tests.{ltb-true}
 use Rattle.language.specs.Sorts.{same}
 use Rattle.verdict.specs.Judging.{every}
 use Rattle.verdict.specs.Outcomes.{Out, accepted, refused, after, judged, each}
@@ -65,7 +66,8 @@ filled f n start i place items m below above long g e d =
       sym (members_zeroed m (e ∙ (ap (λ z. items ++ z) (drop-replicate n 8 0) ∙ ap₂ (λ a k. a ++ replicate (8 - k) 0) front (sym d)))),
     )
 
--- What callers see of a function at a place.
-pub nth_seen : (fs : List code.Function) (n i : ℕ) (f : code.Function) → n ≡ length fs → i < n → f ≡ get_or fs i f → slice_get (seen_all fs) i ≡ Some (seen f)
-nth_seen fs n i f l h e =
-    slice_get_read (seen_all fs) n i (seen f) (l ∙ sym (length-map fs seen)) h (ap seen e ∙ sym (get_or-map seen fs i f (seen f) (omega arith)))
+-- What callers see of a function that was found at a place.
+pub found_seen : (fs items : List code.Function) (i : ℕ) (f : code.Function) → items ≡ fs → true ≡ ltb i (length items) → f ≡ get_or items i f → slice_get (seen_all fs) i ≡ Some (seen f)
+found_seen fs items i f same inside e =
+    slice_get_read (seen_all fs) (length fs) i (seen f) (sym (length-map fs seen)) (subst (λ xs. i < length xs) same (ltb-true _ _ (sym inside)))
+    (ap seen (e ∙ ap (λ xs. get_or xs i f) same) ∙ sym (get_or-map seen fs i f (seen f) (subst (λ xs. i < length xs) same (ltb-true _ _ (sym inside)))))

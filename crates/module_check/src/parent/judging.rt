@@ -21,10 +21,9 @@ use verdict::Head;
 fn only(types: Members) -> Option<u8>
     ensures { result ≡ the_one (used types) }
 {
-    if types.count() == 1 {
-        types.get(0)
-    } else {
-        None
+    match types.as_slice() {
+        [number] => Some(*number),
+        _ => None,
     }
 }
 
@@ -46,7 +45,7 @@ pub(crate) fn is_single(types: Members) -> bool
 pub(crate) fn lead(types: Members) -> u8
     ensures { result ≡ slice_index (used types) 0 }
 {
-    types.get(0).unwrap_or(0)
+    types.as_slice()[0]
 }
 
 // Whether an operation takes an operand of a type.

@@ -79,7 +79,7 @@ impl Reader {
         }
     }
 
-    // So many uses.
+    // So many uses. Members are made of eight places and a count.
     pub(crate) fn uses(&mut self, bytes: &[u8], n: u8, rows: usize) -> Result<Members, Refusal>
         requires { (1 ≤ n) × (n ≤ 8) }
         ensures kept { self.new.nodes ≡ self.old.nodes }

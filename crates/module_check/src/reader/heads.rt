@@ -13,11 +13,11 @@ use crate::reader::Reader;
 use crate::scene::Scene;
 use language::{Binary, Leaf, Merge, One, Two, Unary};
 use merging::{BooleanMerge, IntegerMerge};
-use numbers::{Fault, Number};
+use numbers::{BasicFault, Fault, Number};
 use values::{Members, Refusal, Row, Types};
 use verdict::{Head, Sort};
 
-// What an operation code says.
+// What an operation code says. It and the next read two tables into one type, which can have one TryFrom only.
 fn operation_of(code: u8) -> Option<Head>
     ensures { result ≡ lookup operations code }
 {
@@ -80,10 +80,7 @@ fn number_from(bytes: [u8; 4]) -> Option<Number>
 pub(crate) fn has_fault(number: u8, fault: Fault) -> bool
     ensures { result ≡ has_fault number fault }
 {
-    match fault {
-        Fault::Undef | Fault::MissElt => true,
-        _ => number == 1,
-    }
+    number == 1 || BasicFault::try_from(fault).is_ok()
 }
 
 // The error value with a code, if it is one of the type.
@@ -95,7 +92,8 @@ fn fault_of(number: u8, code: u8) -> Option<Fault>
         .filter(|fault| has_fault(number, *fault))
 }
 
-// The type of an array row's elements.
+// The type of an array row's elements. It and the next two differ in the variant that they match, which cannot be passed
+// but as a closure around the same match.
 pub(crate) fn element_of(types: &Types, number: u8) -> Option<u8>
     ensures { result ≡ element_of (rows_of types.now) number }
 {
@@ -232,6 +230,7 @@ impl Reader {
         }
     }
 
+    // As array_head, but for what it asks of the row and what it makes: both passed in would be as long.
     fn record_head(&mut self, scene: &Scene) -> Result<Head, Refusal>
         ensures { Taken (record_head (rows_in scene.now) scene.now.bytes.now self.old.at) self.old self.new result }
     {

@@ -46,7 +46,8 @@ impl Reader {
         self.nodes[here] = Node { kind, span };
     }
 
-    // An expression: the types of its values.
+    // An expression: the types of its values. An expression and the end of a loop call each other, with the unread bytes
+    // falling: a rule of the project, so each kind of record that goes on there has a function for either.
     #[cycle(expressions)]
     pub(crate) fn expr(&mut self, scene: &Scene) -> Result<Members, Refusal>
         ensures { GoesOn (ExprRead (counts_in scene.now) (expr_in scene.now (names_in scene.now) self.old.at)) self.old self.new result }
@@ -70,7 +71,7 @@ impl Reader {
         Ok(types)
     }
 
-    // The parts of the record at start.
+    // The parts of a record.
     #[cycle(expressions)]
     fn parts(&mut self, parent: &Parent, head: Head) -> Result<Members, Refusal>
         requires { Fit head }
@@ -107,7 +108,7 @@ impl Reader {
         parent.judge_two(two, first, second)
     }
 
-    // The members have one value each.
+    // The members have one value each; all are read before that is judged. Members are made of eight places and a count.
     #[cycle(expressions)]
     fn list(&mut self, parent: &Parent, members: u8) -> Result<Members, Refusal>
         requires { (2 ≤ members) × (members ≤ 8) }
@@ -167,7 +168,7 @@ impl Reader {
         self.arms(parent, constituents)
     }
 
-    // An arm for each constituent; all have the types of the first.
+    // An arm for each constituent; all have the types of the first, and all are read before that is judged.
     #[cycle(expressions)]
     fn arms(&mut self, parent: &Parent, constituents: Members) -> Result<Members, Refusal>
         requires { length (names_in parent.now.scene) < 96 }
@@ -227,7 +228,7 @@ impl Reader {
         }
     }
 
-    // An expression of these types; the record at start is at fault where it has others.
+    // An expression of these types; the parent is at fault where it has others.
     #[cycle(expressions)]
     pub(crate) fn asked(&mut self, parent: &Parent, types: Members) -> Result<(), Refusal>
         ensures { GoesOn (AskedRead (counts_in parent.now.scene) (used types) parent.now.start (expr_in parent.now.scene (names_in parent.now.scene) self.old.at)) self.old self.new result }
@@ -268,7 +269,7 @@ impl Reader {
         Ok(())
     }
 
-    // The parts of the record at start; an iter carries the types of the loop's names.
+    // The parts of a record there; an iter carries the types of the loop's names.
     #[cycle(expressions)]
     fn end_parts(
         &mut self,
