@@ -1,13 +1,11 @@
 -- Facts on lists of types that the reading functions share.
-use Rattle.std.proofs.Common.{◌≡◌, subst, ltb, ℕ, ◌-◌, ◌<◌, ◌≤◌, Bool, true, false, ◌&&◌, List, [], ◌∷◌, ◌++◌, length, get_or, take, drop, replicate, Some, sym, refl, ap, ◌∙◌, ap₂, inl, inr, arith}
+use Rattle.std.proofs.Common.{◌≡◌, subst, ltb, ℕ, ◌-◌, ◌<◌, ◌≤◌, Bool, true, false, List, ◌++◌, length, get_or, take, drop, replicate, Some, sym, ap, ◌∙◌, ap₂, inl, inr, arith}
 use lib.ListN.{length-replicate}
 use Rattle.std.specs.List.{slice_get}
 use Rattle.std.proofs.lemmas.List.{take_at, take_all, drop-replicate, length-map, get_or-map}
-use Rattle.std.proofs.lemmas.Option.{slice_get-get_or, slice_get_read}
-use Rattle.std.proofs.lemmas.Bool.Decides.{nat_tests}
+use Rattle.std.proofs.lemmas.Option.{slice_get_read}
 use borrow.Author.Tests.{ltb-true}
 use Rattle.language.specs.Sorts.{same}
-use Rattle.verdict.specs.Judging.{every}
 use Rattle.verdict.specs.Outcomes.{Out, accepted, refused, after, judged, each}
 use Rattle.verdict.proofs.Spans.{not_accepted}
 use Rattle.values.specs.declared.refusal.Refusal.{Refusal}
@@ -15,25 +13,10 @@ use Rattle.values.specs.declared.members.Members.{Members}
 use Rattle.values.specs.Rows.{used}
 use Rattle.verdict.specs.Bodies.{members_of}
 use Rattle.verdict.proofs.Each.{Going, going_fails, going_all}
-use Rattle.verdict.proofs.Sames.{same_refl, same_true}
 use Rattle.verdict.proofs.Members.{members_zeroed}
 use Rattle.language.specs.declared.function.Function as code
 use Rattle.module_check.specs.Views.{seen, seen_all}
 use Rattle.module_check.specs.Reading.{Declines}
-
-differ : (xs ys : List ℕ) (b : Bool) → same xs ys ≡ b → (xs ≡ ys → ⊥) → false ≡ b
-differ xs ys true e h = absurd (h (same_true xs ys e))
-differ xs ys false e h = refl
-
-pub is_same : (xs ys : List ℕ) → xs ≡ ys → true ≡ same xs ys
-is_same xs ys e = sym (ap (same xs) (sym e) ∙ same_refl xs)
-
-every_append : (t : ℕ) (xs ys : List ℕ) → every t (xs ++ ys) ≡ (every t xs && every t ys)
-every_append t [] ys = refl
-every_append t (x ∷ xs) ys = let h = every_append t xs ys in grind (arith, nat_tests)
-
-pub nth_is : (xs : List ℕ) (i x : ℕ) → i < length xs → Some x ≡ slice_get xs i → get_or xs i 0 ≡ x
-nth_is xs i x l e = let h = slice_get-get_or xs i 0 l in cc
 
 -- What fails first fails the whole.
 pub declines_after : {A B : Type 0} (o : Out A) (f : A → ℕ → Out B) (e : Refusal) → Declines o e → Declines (after o f) e
