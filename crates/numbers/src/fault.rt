@@ -1,8 +1,7 @@
 ghost use Rattle.std.specs.Prelude.{◌≡◌};
 ghost use Rattle.numbers.specs.Faults.{code_of, basic_of, Decodes, Narrows};
 
-use std::error::Error;
-use std::fmt;
+use thiserror::Error;
 
 // The six error values of an integer, with their numbers in bytes.
 #[derive(Clone, Copy, Debug, PartialEq, Eq)]
@@ -23,11 +22,13 @@ pub enum BasicFault {
 }
 
 // A number that no error value has.
-#[derive(Clone, Copy, Debug, PartialEq, Eq)]
+#[derive(Clone, Copy, Debug, PartialEq, Eq, Error)]
+#[error("no error value has the number {0}")]
 pub struct UnknownCode(pub u8);
 
 // An error value that only integers have.
-#[derive(Clone, Copy, Debug, PartialEq, Eq)]
+#[derive(Clone, Copy, Debug, PartialEq, Eq, Error)]
+#[error("only integers have the error value {0}")]
 pub struct IntegersOnly(pub Fault);
 
 impl From<Fault> for u8 {
@@ -80,19 +81,3 @@ impl TryFrom<Fault> for BasicFault {
         }
     }
 }
-
-impl fmt::Display for UnknownCode {
-    fn fmt<W: fmt::Write>(&self, f: &mut fmt::Formatter<W>) -> fmt::Result {
-        write!(f, "no error value has the number {}", self.0)
-    }
-}
-
-impl Error for UnknownCode {}
-
-impl fmt::Display for IntegersOnly {
-    fn fmt<W: fmt::Write>(&self, f: &mut fmt::Formatter<W>) -> fmt::Result {
-        write!(f, "only integers have the error value {}", self.0)
-    }
-}
-
-impl Error for IntegersOnly {}

@@ -25,6 +25,8 @@ pub fn compare(j: Integer, k: Integer) -> Option<Ordering>
     }
 }
 
+// <, <=, > and >= differ in the test of the order alone, which is std's.
+//
 // J < K
 pub fn less(j: Integer, k: Integer) -> Boolean
     ensures { result ≡ less j k }

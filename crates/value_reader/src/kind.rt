@@ -2,8 +2,7 @@ ghost use Rattle.std.specs.Prelude.{◌≡◌, ◌↔◌, IsTrue};
 ghost use Rattle.value_reader.specs.Kinds.{code_of, head_size, ErrorOf, Decodes};
 
 use numbers::{BasicFault, Fault};
-use std::error::Error;
-use std::fmt;
+use thiserror::Error;
 
 // What a record is, with the byte that it begins with.
 #[derive(Clone, Copy, Debug, PartialEq, Eq)]
@@ -17,7 +16,8 @@ pub enum Kind {
 }
 
 // A byte with which no record begins.
-#[derive(Clone, Copy, Debug, PartialEq, Eq)]
+#[derive(Clone, Copy, Debug, PartialEq, Eq, Error)]
+#[error("no record begins with the byte {0}")]
 pub struct UnknownKind(pub u8);
 
 impl Kind {
@@ -65,11 +65,3 @@ impl TryFrom<u8> for Kind {
         }
     }
 }
-
-impl fmt::Display for UnknownKind {
-    fn fmt<W: fmt::Write>(&self, f: &mut fmt::Formatter<W>) -> fmt::Result {
-        write!(f, "no record begins with the byte {}", self.0)
-    }
-}
-
-impl Error for UnknownKind {}

@@ -1,6 +1,5 @@
 use language::{Leaf, Merge, One, Two};
-use std::error::Error;
-use std::fmt;
+use thiserror::Error;
 use values::Members;
 
 // What the kind byte of an expression's record, or of the end of a loop, says.
@@ -27,7 +26,8 @@ pub enum Sort {
 }
 
 // A byte that is no kind.
-#[derive(Clone, Copy, Debug, PartialEq, Eq)]
+#[derive(Clone, Copy, Debug, PartialEq, Eq, Error)]
+#[error("no kind has the byte {0}")]
 pub struct UnknownKind(pub u8);
 
 impl TryFrom<u8> for Sort {
@@ -108,11 +108,3 @@ impl TryFrom<u8> for Shape {
         }
     }
 }
-
-impl fmt::Display for UnknownKind {
-    fn fmt<W: fmt::Write>(&self, f: &mut fmt::Formatter<W>) -> fmt::Result {
-        write!(f, "no kind has the byte {}", self.0)
-    }
-}
-
-impl Error for UnknownKind {}
