@@ -58,8 +58,8 @@ pub fn times(j: Integer, k: Integer) -> Integer
     }
 }
 
-// J / K, the fraction dropped toward zero. `divide` and `modulo` keep a match each: with the exact operation as a closure,
-// the contract of one function for both would be longer than the two.
+// J / K, the fraction dropped toward zero. `divide` and `modulo` keep a match each, as `plus` and `times` do: with the exact
+// operation as a closure, the contract of one function for both would be longer than the two.
 pub fn divide(j: Integer, k: Integer) -> Integer
     ensures { result ≡ quotient j k }
 {
@@ -93,6 +93,7 @@ pub fn abs(j: Integer) -> Integer
     }
 }
 
+// Each of the exact operations is one operator at 64 bits, with a proof of its own that it fits.
 fn exact_sum(m: Number, n: Number) -> Integer
     ensures { result ≡ judged (m.value +ℤ n.value) }
 {

@@ -46,10 +46,14 @@ compared j k =
     (cond (is_fault NegOver k) (reversed (from_neg_over j))
     (by_value j k)))))
 
--- What a test of the order says: undef where the order is open.
+-- What a test says: undef where there is nothing to test.
+abbrev pub answered : Option Bool → Boolean
+answered None = truth.Error Undef
+answered (Some b) = truth.Proper b
+
+-- What a test of the order says.
 abbrev pub says : (Ordering → Bool) → Option Ordering → Boolean
-says test None = truth.Error Undef
-says test (Some order) = truth.Proper (test order)
+says test order = answered (option_map test order)
 
 abbrev pub less : Integer → Integer → Boolean
 less j k = says is_lt (compared j k)

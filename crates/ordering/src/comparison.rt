@@ -1,5 +1,5 @@
 ghost use Rattle.std.specs.Prelude.{◌≡◌};
-ghost use Rattle.ordering.specs.Comparing.{less_unless, compared, less, at_most, greater, at_least, equal, unequal};
+ghost use Rattle.ordering.specs.Comparing.{less_unless, compared, answered, less, at_most, greater, at_least, equal, unequal};
 
 use numbers::{BasicFault, Boolean, Fault, Integer};
 use std::cmp::Ordering;
@@ -25,34 +25,32 @@ pub fn compare(j: Integer, k: Integer) -> Option<Ordering>
     }
 }
 
-// <, <=, > and >= differ in the test of the order alone, which is std's.
-//
 // J < K
 pub fn less(j: Integer, k: Integer) -> Boolean
     ensures { result ≡ less j k }
 {
-    compare(j, k).map_or(UNDEF, |order| Boolean::Proper(order.is_lt()))
+    answer(compare(j, k).map(Ordering::is_lt))
 }
 
 // J <= K
 pub fn at_most(j: Integer, k: Integer) -> Boolean
     ensures { result ≡ at_most j k }
 {
-    compare(j, k).map_or(UNDEF, |order| Boolean::Proper(order.is_le()))
+    answer(compare(j, k).map(Ordering::is_le))
 }
 
 // J > K
 pub fn greater(j: Integer, k: Integer) -> Boolean
     ensures { result ≡ greater j k }
 {
-    compare(j, k).map_or(UNDEF, |order| Boolean::Proper(order.is_gt()))
+    answer(compare(j, k).map(Ordering::is_gt))
 }
 
 // J >= K
 pub fn at_least(j: Integer, k: Integer) -> Boolean
     ensures { result ≡ at_least j k }
 {
-    compare(j, k).map_or(UNDEF, |order| Boolean::Proper(order.is_ge()))
+    answer(compare(j, k).map(Ordering::is_ge))
 }
 
 // J = K
@@ -70,6 +68,13 @@ pub fn unequal(j: Integer, k: Integer) -> Boolean
     ensures { result ≡ unequal j k }
 {
     equal(j, k).not()
+}
+
+// What a test of the order says: undef where the order is open.
+fn answer(test: Option<bool>) -> Boolean
+    ensures { result ≡ answered test }
+{
+    test.map_or(UNDEF, Boolean::Proper)
 }
 
 // The order of an over and J, of which both rules of overs speak: 5a sets J against pos_over, 5b neg_over against J.

@@ -27,7 +27,7 @@ pub enum Refusal {
 }
 
 impl Refusal {
-    // The refusal's number; want of memory has none.
+    // The refusal's number; want of memory has none, so that the variants cannot have theirs as discriminants.
     pub fn number(self) -> Option<u8>
         ensures { result ≡ number_of self }
     {
@@ -55,12 +55,12 @@ impl Refusal {
         ensures { result ≡ offset_of self }
     {
         match self {
-            Refusal::Cut(at) => Some(at),
-            Refusal::Strange(at) => Some(at),
-            Refusal::Deep(at) => Some(at),
-            Refusal::Twin(at) => Some(at),
-            Refusal::Undeclared(at) => Some(at),
-            Refusal::Clash(at) => Some(at),
+            Refusal::Cut(at)
+            | Refusal::Strange(at)
+            | Refusal::Deep(at)
+            | Refusal::Twin(at)
+            | Refusal::Undeclared(at)
+            | Refusal::Clash(at) => Some(at),
             _ => None,
         }
     }

@@ -50,7 +50,7 @@ impl Program {
         Some(self.functions.get(function as usize)?.parameters)
     }
 
-    // The types of a function's results, if there is such a function.
+    // The types of a function's results, if there is such a function. As `parameters`, but for the field: one line each.
     pub fn results(&self, function: u8) -> Option<Members>
         ensures { result ≡ results_of self.now.functions.items function }
     {

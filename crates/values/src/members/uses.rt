@@ -9,7 +9,8 @@ ghost use Rattle.values.specs.Rows.{used, all_below};
 use crate::members::Members;
 
 impl Members {
-    // The first `count` of the numbers; none unless these are 1 to 8. The others are kept as they are.
+    // The first `count` of the numbers; none unless these are 1 to 8. The others are kept as they are. Eight places and a count,
+    // since who reads numbers one by one, without taking memory, has them so.
     pub fn new(numbers: [u8; 8], count: u8) -> Option<Members>
         ensures { MatchOption result ((count ≡ 0) ⊎ (8 < count)) (λ m. (m.numbers ≡ numbers) × (m.count ≡ count)) }
     {
