@@ -8,11 +8,11 @@ use Rattle.numbers.specs.declared.fault.BasicFault.TheVariants.{Undef}
 use Rattle.numbers.specs.declared.boolean.Boolean.{Boolean}
 use Rattle.numbers.specs.declared.boolean.Boolean.TheVariants.{Proper, Error}
 use Rattle.numbers.specs.Booleans.{both, either, is_error}
-use Rattle.merging.specs.Operators.{meaning}
+use Rattle.merging.specs.Operators.{Laws, meaning}
 use Rattle.merging.specs.Operations.{OperationLaws, combining}
 use Rattle.merging.specs.Free.{from_last, tallied-from_last}
-use Rattle.merging.specs.Combining.{combining_free}
-use Rattle.choices.specs.Truths.{is_true, unless_error, AndAll, OrSome}
+use Rattle.merging.specs.Combining.{combining_free, combining_laws}
+use Rattle.choices.specs.Truths.{all_of, some_of, is_true, unless_error, AndAll, OrSome}
 
 -- An operation on truth values, undef where either is an error.
 abbrev lifted : (Bool → Bool → Bool) → Boolean → Boolean → Boolean
@@ -108,3 +108,10 @@ or_some ps =
     ap (λ op. meaning (combining (Proper false) op) ps) (sym lifted_either)
     ∙ gathering_stands or_gathers ps
     ∙ ap (unless_error ps) (any_gathered ps)
+
+-- So and and or are lawful operators.
+pub and_lawful : Laws all_of
+and_lawful = combining_laws and_laws
+
+pub or_lawful : Laws some_of
+or_lawful = combining_laws or_laws

@@ -9,8 +9,10 @@ use Rattle.numbers.specs.declared.integer.Integer.TheVariants.{Proper, Error}
 use Rattle.numbers.specs.Integers.{judged, barred, greatest, least}
 use Rattle.numbers.proofs.Judging.{judged_proper, not_lt}
 use Rattle.ordering.specs.Ranking.{max_rank, maximum}
+use Rattle.merging.specs.Operators.{Laws}
 use Rattle.merging.specs.Operations.{OperationLaws}
-use Rattle.choices.specs.Extremes.{MaxGreatest}
+use Rattle.merging.specs.Combining.{combining_laws}
+use Rattle.choices.specs.Extremes.{greatest_of, MaxGreatest}
 use Rattle.choices.specs.Choosing.{Ranks, choosing_laws, chosen}
 
 -- What has a rank; undef for the rank of what is barred.
@@ -66,3 +68,7 @@ max_laws = choosing_laws max_ranks
 
 pub max_greatest : MaxGreatest
 max_greatest ps = chosen max_ranks ps
+
+-- So max is a lawful operator.
+pub max_lawful : Laws greatest_of
+max_lawful = combining_laws max_laws

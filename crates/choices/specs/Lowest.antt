@@ -11,9 +11,10 @@ use Rattle.numbers.specs.declared.integer.Integer.TheVariants.{Proper, Error}
 use Rattle.numbers.specs.Integers.{judged, barred, greatest, least}
 use Rattle.numbers.proofs.Judging.{judged_proper, not_lt}
 use Rattle.ordering.specs.Ranking.{min_rank, minimum}
-use Rattle.merging.specs.Operators.{meaning}
+use Rattle.merging.specs.Operators.{Laws, meaning}
 use Rattle.merging.specs.Operations.{OperationLaws, combining}
-use Rattle.choices.specs.Extremes.{Chosen, MinLeast}
+use Rattle.merging.specs.Combining.{combining_laws}
+use Rattle.choices.specs.Extremes.{least_of, Chosen, MinLeast}
 use Rattle.choices.specs.Choosing.{chosen_by, Ranks, choosing_laws, chosen}
 
 abbrev down_rank : Integer → ℤ
@@ -90,3 +91,7 @@ pub min_least : MinLeast
 min_least ps =
     turned_over ps (meaning (combining (Error PosOver) minimum) ps)
     (subst (λ m. Chosen (λ r p. down_rank p ≤ℤ down_rank r) (Error PosOver) ps (meaning (combining (Error PosOver) m) ps)) minimum_is (chosen min_ranks ps))
+
+-- So min is a lawful operator.
+pub min_lawful : Laws least_of
+min_lawful = combining_laws min_laws

@@ -61,6 +61,7 @@ fn truth(word: &str) -> Boolean {
     }
 }
 
+// As `integers`, but for the words and the operators, which are all that either says.
 fn booleans<S: Operators>(rt: &HostRuntime, line: &str) -> anyhow::Result<()> {
     let mut parts = Vec::new(rt.alloc());
     for word in line.split_whitespace() {

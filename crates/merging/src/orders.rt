@@ -15,6 +15,7 @@ pub const MOST: usize = 32768;
 #[derive(Clone, Copy, PartialEq, Eq, Debug)]
 pub struct TooManyParts;
 
+// By hand, since a derive's text has no contract.
 impl fmt::Display for TooManyParts {
     ghost output = { λ _. Some (codes "more than " ++ decimal most ++ codes " parts") };
 
@@ -40,7 +41,7 @@ where
     Ok(O::close(sum))
 }
 
-// Merges parts from the back.
+// Merges parts from the back. It stays apart from `merge`, since it exchanges the sides of each join too.
 pub fn merge_backwards<O: Operator>(parts: &[O::Part]) -> Result<O::Closed, TooManyParts>
 where
     O::Part: Copy,

@@ -1,6 +1,7 @@
 use language::Node;
 
-// A place in the bytes, and the records of bodies that were read so far.
+// A place in the bytes, and the records of bodies that were read so far. The bytes stay a parameter: held here, each contract
+// would have to say that they stay the same. Where more is said than `Taken`, a clause `kept` speaks of the records.
 #[derive(Drop)]
 pub struct Reader {
     pub at: usize,

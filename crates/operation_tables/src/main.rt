@@ -99,6 +99,7 @@ fn truths(rt: &HostRuntime) -> anyhow::Result<()> {
             let both = p.and(q);
             print!(rt; " {both}")?;
         }
+        // The same for or: two short loops in one line of output.
         print!(rt; " or")?;
         for q in TRUTHS {
             let either = p.or(q);

@@ -51,13 +51,13 @@ both_fit n t s h =
     let u = every_sized within s in
     omega (arith, ints, u.0, u.1, u.2, u.3)
 
-together_assoc : (a b c : Sides) → together (together a b) c ≡ together a (together b c)
+pub together_assoc : (a b c : Sides) → together (together a b) c ≡ together a (together b c)
 together_assoc a b c = cc (+ℤ_assoc a.below b.below c.below, +ℤ_assoc a.above b.above c.above, notes_assoc a.notes b.notes c.notes)
 
-together_comm : (a b : Sides) → together a b ≡ together b a
+pub together_comm : (a b : Sides) → together a b ≡ together b a
 together_comm a b = cc (+ℤ_comm a.below b.below, +ℤ_comm a.above b.above, notes_comm a.notes b.notes)
 
-together_none : (a : Sides) → together no_parts a ≡ a
+pub together_none : (a : Sides) → together no_parts a ≡ a
 together_none a = ap₂ (λ (x y : ℤ). record { below = x; above = y; notes = a.notes }) (+ℤ_idl a.below) (+ℤ_idl a.above)
 
 pub two_sums_free : FreeLaws two_sums

@@ -1,5 +1,5 @@
 // Plus a second time, as an author outside would write it: the parts below 0 and those above are summed apart, so that the
-// signs need no notes.
+// signs need no notes. What errors occurred is noted as plus notes it.
 #![tactic(auto)]
 
 ghost use Rattle.std.specs.Prelude.{◌≡◌};

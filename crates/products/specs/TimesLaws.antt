@@ -5,7 +5,10 @@ use Rattle.std.proofs.Math.Path.{fun_ext}
 use Rattle.numbers.specs.declared.integer.Integer.{Integer}
 use Rattle.numbers.specs.Integers.{judged}
 use Rattle.arithmetic.specs.Arithmetic.{product}
+use Rattle.merging.specs.Operators.{Laws}
 use Rattle.merging.specs.Operations.{OperationLaws}
+use Rattle.merging.specs.Combining.{combining_laws}
+use Rattle.products.specs.Times.{times}
 use Rattle.products.specs.Factors.{factor, value, mul, multiplied}
 use Rattle.products.specs.Multiplying.{settle, times_assoc, times_comm}
 use Rattle.products.specs.Rules.{by_factors}
@@ -29,3 +32,7 @@ multiplied_laws = record { assoc = multiplied_assoc; comm = λ a b. ap value (ti
 
 pub times_laws : OperationLaws (judged (pos 1)) product
 times_laws = subst (OperationLaws (judged (pos 1))) multiplied_is multiplied_laws
+
+-- So times is a lawful operator.
+pub times_lawful : Laws times
+times_lawful = combining_laws times_laws

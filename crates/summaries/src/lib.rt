@@ -47,7 +47,7 @@ pub fn repeated_plus(readings: &[Integer]) -> Integer
         .fold(Integer::judge(0), |total, reading| plus(total, *reading))
 }
 
-// The same from the last reading to the first.
+// The same from the last reading to the first: the one is a fold, the other an rfold, and nothing else.
 pub fn repeated_plus_backwards(readings: &[Integer]) -> Integer
     ensures { result ≡ from_last readings.now }
 {

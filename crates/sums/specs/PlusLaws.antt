@@ -9,7 +9,7 @@ use Rattle.std.specs.Int.{w64}
 use Rattle.numbers.specs.declared.integer.Integer.{Integer}
 use Rattle.numbers.specs.declared.integer.Integer.TheVariants.{Proper, Error}
 use Rattle.arithmetic.specs.Arithmetic.{negative, positive}
-use Rattle.merging.specs.Operators.{Sized, Laws, most}
+use Rattle.merging.specs.Operators.{Sized, Laws, most, tallied}
 use Rattle.merging.specs.Sizing.{Kept, every_sized}
 use Rattle.merging.specs.Free.{FreeLaws, free_laws, from_last, tallied-from_last}
 use Rattle.sums.specs.declared.Sum.{Sum}
@@ -39,7 +39,7 @@ sums_fit m n a b s t h =
     let v = every_sized within t in
     omega (arith, ints, u.0, u.1, v.0, v.1)
 
-together_assoc : (a b c : Sum) → together (together a b) c ≡ together a (together b c)
+pub together_assoc : (a b c : Sum) → together (together a b) c ≡ together a (together b c)
 together_assoc a b c = cc (
   +ℤ_assoc a.sum b.sum c.sum,
   or_assoc a.negative b.negative c.negative,
@@ -70,9 +70,15 @@ pub plus_laws : Laws plus
 plus_laws = free_laws plus_free
 
 -- What is noted of a list: its exact sum, and the sorts of part that occur.
-noted : (ps : List Integer) → from_last plus ps ≡ record { sum = total ps; negative = list_any negative ps; positive = list_any positive ps; notes = notes_in ps }
-noted [] = refl
-noted (p ∷ ps) = ap (together (one_part p)) (noted ps)
+abbrev noted : List Integer → Sum
+noted ps = record { sum = total ps; negative = list_any negative ps; positive = list_any positive ps; notes = notes_in ps }
+
+from_last_noted : (ps : List Integer) → from_last plus ps ≡ noted ps
+from_last_noted [] = refl
+from_last_noted (p ∷ ps) = ap (together (one_part p)) (from_last_noted ps)
+
+pub tallied_noted : (ps : List Integer) → tallied plus ps ≡ noted ps
+tallied_noted ps = tallied-from_last plus_free ps ∙ from_last_noted ps
 
 pub plus_sums : PlusSums
-plus_sums ps = ap plus.close (tallied-from_last plus_free ps ∙ noted ps)
+plus_sums ps = ap plus.close (tallied_noted ps)

@@ -13,7 +13,7 @@ pub use notes::Notes;
 use numbers::Integer;
 
 // The tally of plus: the exact sum of the proper parts, whether one of them is negative and one positive, and notes of the
-// others.
+// others. Flags, since the sum does not say of which signs its parts were.
 #[derive(Clone, Copy, PartialEq, Eq, Debug)]
 pub struct Sum {
     sum: i64,

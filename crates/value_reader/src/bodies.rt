@@ -20,7 +20,7 @@ pub(crate) fn boolean(bytes: &[u8], at: usize) -> Result<usize, Refusal>
     }
 }
 
-// Where the integer at `at` ends.
+// Where the integer at `at` ends. Here and in `boolean`, as wherever a record is read, an error value may stand in its place.
 pub(crate) fn integer(bytes: &[u8], at: usize) -> Result<usize, Refusal>
     ensures { result ≡ integer_at bytes.now at }
 {

@@ -24,8 +24,7 @@ impl Display for Shown<'_> {
     }
 }
 
-// The bytes that are not written yet, and where they are written. The text ends at bytes that are no value. Parts are
-// counted, not indexed: each begins where the last one ended.
+// The bytes that are not written yet, and where they are written. The text ends at bytes that are no value.
 #[derive(Drop)]
 struct Printer<'a, 'f, W: fmt::Write> {
     rest: &'a [u8],
@@ -72,6 +71,8 @@ impl<'a, W: fmt::Write> Printer<'a, '_, W> {
         Ok(())
     }
 
+    // Parts are counted, not indexed: each begins where the last one ended. So are those of a record, whose places are
+    // written with them.
     #[cycle(shown_values)]
     fn array(&mut self, depth: u8) -> fmt::Result {
         let Some(&[_, a, b, c, d, e, f]) = self.take::<7>() else {

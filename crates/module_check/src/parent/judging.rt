@@ -138,6 +138,7 @@ pub(crate) fn end_noted(head: Head, results: Members) -> Kind
     }
 }
 
+// Each judgement ends in a test and a clash of its own: a test that is shared and asked by `?` would be as long.
 impl Parent<'_> {
     fn unary(&self, operation: Unary, part: Members) -> Result<Members, Refusal>
         ensures { Judged (judge_one (context_in self.now.scene) (unary operation) (used part) self.now.start) result }

@@ -63,7 +63,8 @@ impl Reader {
         }
     }
 
-    // A use of a type below the number of the row behind so many.
+    // A use of a type below the number of the row behind so many. The kind bytes of a use, a function and a module are asked
+    // for at one place each, and never beside others, so they are no enum.
     fn type_use(&mut self, bytes: &[u8], rows: usize) -> Result<u8, Refusal>
         ensures { Taken (use_at (rows + 2) bytes.now self.old.at) self.old self.new result }
     {
