@@ -95,17 +95,19 @@ fn truths(rt: &HostRuntime) -> anyhow::Result<()> {
         let undef = p.is_fault(Fault::Undef);
         let missing = p.is_fault(Fault::MissElt);
         print!(rt; "boolean {p}: {inverse} {error} {undef} {missing} and")?;
-        for q in TRUTHS {
-            let both = p.and(q);
-            print!(rt; " {both}")?;
-        }
-        // The same for or: two short loops in one line of output.
+        with_each_truth(rt, |q| p.and(q))?;
         print!(rt; " or")?;
-        for q in TRUTHS {
-            let either = p.or(q);
-            print!(rt; " {either}")?;
-        }
+        with_each_truth(rt, |q| p.or(q))?;
         println!(rt; "")?;
+    }
+    Ok(())
+}
+
+fn with_each_truth<F: Fn(Boolean) -> Boolean>(rt: &HostRuntime, operation: F) -> anyhow::Result<()>
+    requires { F.IsAlwaysCallable operation }
+{
+    for q in TRUTHS {
+        print!(rt; " {}", operation(q))?;
     }
     Ok(())
 }
