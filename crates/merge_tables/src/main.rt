@@ -61,7 +61,8 @@ fn truth(word: &str) -> Boolean {
     }
 }
 
-// As `integers`, but for the words and the operators, which are all that either says.
+// As `integers`, which leaves out a word that is no reading: one function for both would take the reading and the operators
+// as closures.
 fn booleans<S: Operators>(rt: &HostRuntime, line: &str) -> anyhow::Result<()> {
     let mut parts = Vec::new(rt.alloc());
     for word in line.split_whitespace() {

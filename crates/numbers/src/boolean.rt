@@ -4,7 +4,7 @@ ghost use Rattle.numbers.specs.Booleans.{both, either, inverse, is_error, is_fau
 use crate::fault::{BasicFault, Fault};
 
 // A truth value or one of the two error values that a boolean has. No Result, for the reasons at Integer, and no generic enum
-// for both: `is_error` and `is_fault`, a line each, are all that they share.
+// for both: `is_error` and `is_fault` are all that they share.
 #[derive(Clone, Copy, Debug, PartialEq, Eq)]
 pub enum Boolean {
     Proper(bool),

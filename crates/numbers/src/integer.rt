@@ -4,8 +4,8 @@ ghost use Rattle.numbers.specs.Integers.{barred, is_error, is_fault, judged};
 use crate::fault::Fault;
 use crate::number::Number;
 
-// A proper number or one of the six error values. By a rule of the project an enum of its own: a Result could have no Display
-// of ours, and `?` would carry an error value past a rule of arithmetic.
+// A proper number or one of the six error values. An enum of its own: a Result could have no Display of ours, and `?` would
+// carry an error value past a rule of arithmetic.
 #[derive(Clone, Copy, Debug, PartialEq, Eq)]
 pub enum Integer {
     Proper(Number),

@@ -8,7 +8,8 @@ pub struct Number {
 }
 
 impl Number {
-    // The number with this value; none at -2147483648. `new` and `get` are named as those of std's NonZero numbers.
+    // The number with this value; none at -2147483648. `new` and `get` are named as those of std's NonZero numbers: a TryFrom
+    // would need an error type that says no more than none.
     pub fn new(value: i32) -> Option<Number>
         ensures { MatchOption result (value ≡ negsuc 2147483647) (λ n. n.value ≡ value) }
     {

@@ -3,6 +3,7 @@ ghost use Rattle.ordering.specs.Ranking.{maximum, minimum, MaxRules, MinRules};
 
 use numbers::{Fault, Integer};
 
+// Named here for the arms below, as in each file whose rules match on them: a name from outside is as long as the error.
 const UNDEF: Integer = Integer::Error(Fault::Undef);
 
 const UNKNOWN: Integer = Integer::Error(Fault::Unknown);

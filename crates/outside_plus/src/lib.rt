@@ -1,5 +1,6 @@
 // Plus a second time, as an author outside would write it: the parts below 0 and those above are summed apart, so that the
-// signs need no notes. What errors occurred is noted as plus notes it.
+// signs need no notes. What errors occurred is noted as plus notes it. A second form on purpose, since that both mean the same
+// is the theorem.
 #![tactic(auto)]
 
 ghost use Rattle.std.specs.Prelude.{◌≡◌};

@@ -12,6 +12,7 @@ pub fn reading(text: &str) -> Option<Integer>
         .or_else(|| number(text))
 }
 
+// No FromStr of the error values: blanks and miss are words of readings alone.
 fn named_fault(text: &str) -> Option<Fault>
     ensures { result ≡ word_fault text.now }
 {

@@ -41,13 +41,10 @@ pub enum Misread {
 pub fn read_table(heap: Global, text: &str) -> Result<Vec<Column>, Misread>
     ensures { IfOk result (λ columns. 0 < vec_len columns) }
 {
-    let mut columns = Vec::new(heap);
-    for (i, line) in text.lines().enumerate() {
-        if i == 0 {
-            read_header(heap, line, &mut columns)?;
-        } else {
-            read_row(line, i.saturating_add(1), &mut columns)?;
-        }
+    let mut lines = text.lines();
+    let mut columns = read_header(heap, lines.next().ok_or(Misread::NoHeader)?)?;
+    for (i, line) in lines.enumerate() {
+        read_row(line, i.saturating_add(2), &mut columns)?;
     }
     if columns.is_empty() {
         return Err(Misread::NoHeader);
@@ -55,7 +52,8 @@ pub fn read_table(heap: Global, text: &str) -> Result<Vec<Column>, Misread>
     Ok(columns)
 }
 
-fn read_header(heap: Global, line: &str, columns: &mut Vec<Column>) -> Result<(), Misread> {
+fn read_header(heap: Global, line: &str) -> Result<Vec<Column>, Misread> {
+    let mut columns = Vec::new(heap);
     for name in line.split(',') {
         let name = String::from_str(heap, name.trim_ascii())?;
         columns.push(Column {
@@ -63,7 +61,7 @@ fn read_header(heap: Global, line: &str, columns: &mut Vec<Column>) -> Result<()
             readings: Vec::new(heap),
         })?;
     }
-    Ok(())
+    Ok(columns)
 }
 
 // Adds a line's readings to the columns; none is left out and none is over.

@@ -1,7 +1,8 @@
 ghost use Rattle.std.specs.Prelude.{◌≡◌, ◌+◌, ◌≤◌, length, nat_le};
 ghost use Rattle.stack.specs.Laying.{Copied, Removed};
 
-// Whether `size` more bytes fit from `top` on. `lay_bytes` tests the same in the crate below, which has no other use of it.
+// Whether `size` more bytes fit from `top` on. `lay_bytes` tests the same in the crate below: a comparison, which
+// a public function would be longer than.
 pub(crate) fn has_room(store: &[u8], top: usize, size: usize) -> bool
     ensures { result ≡ nat_le (top + size) (length store.now) }
 {

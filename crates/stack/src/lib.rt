@@ -1,6 +1,6 @@
 // The store of a run: bytes that are lent to it, on which values stand one behind the other up to a top. A run writes
-// to its store through these functions alone. Scalars are written by the value reader's own functions; whether
-// something fits is one definition for all of them.
+// to its store through these functions alone. Scalars are written by the value reader's own functions; that
+// something fits is said by one definition in all contracts but that of copies.
 // Store and top stay two parameters: a struct that held both would have to say in each contract besides that it still
 // holds the same loan.
 #![tactic(auto)]

@@ -1,5 +1,5 @@
 use anyhow::anyhow;
-use merging::{Operator, Operators};
+use merging::{MOST, Operator, Operators};
 use numbers::Integer;
 use readings::{Column, read_table};
 use std::{fs, io};
@@ -50,6 +50,6 @@ fn print_merge<O: Operator<Part = Integer, Closed = Integer>>(
                 orders.front, orders.back, orders.halves
             )
         }
-        Err(_) => println!(rt; "  {name}: more than 32768 readings, too many for one merge"),
+        Err(_) => println!(rt; "  {name}: more than {MOST} readings, too many for one merge"),
     }
 }

@@ -6,7 +6,7 @@ use crate::heads::begin;
 use crate::kind::Kind;
 use values::Refusal;
 
-// Where the boolean at `at` ends.
+// Where the boolean at `at` ends. A byte below 2 is a truth value: who keeps it reads a `bool`.
 pub(crate) fn boolean(bytes: &[u8], at: usize) -> Result<usize, Refusal>
     ensures { result ≡ boolean_at bytes.now at }
 {
@@ -20,7 +20,8 @@ pub(crate) fn boolean(bytes: &[u8], at: usize) -> Result<usize, Refusal>
     }
 }
 
-// Where the integer at `at` ends. Here and in `boolean`, as wherever a record is read, an error value may stand in its place.
+// Where the integer at `at` ends. The three lines about `begin` stand in five functions: one around the rest would take it as
+// a closure, and its contract be longer than they. The number is not kept, so its test is one of 32 bits and makes no Number.
 pub(crate) fn integer(bytes: &[u8], at: usize) -> Result<usize, Refusal>
     ensures { result ≡ integer_at bytes.now at }
 {

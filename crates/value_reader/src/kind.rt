@@ -15,13 +15,14 @@ pub enum Kind {
     Union = 0x55,
 }
 
-// A byte with which no record begins.
+// A byte with which no record begins. Each conversion has an error of its own, which says what did not convert.
 #[derive(Clone, Copy, Debug, PartialEq, Eq, Error)]
 #[error("no record begins with the byte {0}")]
 pub struct UnknownKind(pub u8);
 
 impl Kind {
-    // Whether a value of a type of this kind may be this error: the errors of arithmetic are integers' alone.
+    // Whether a value of a type of this kind may be this error: the errors of arithmetic are integers' alone. (The check of
+    // modules asks the same of a type's number, where there is no kind yet.)
     pub fn admits(self, fault: Fault) -> bool
         ensures { IsTrue result ↔ ErrorOf self fault }
     {

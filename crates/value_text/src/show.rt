@@ -72,7 +72,7 @@ impl<'a, W: fmt::Write> Printer<'a, '_, W> {
     }
 
     // Parts are counted, not indexed: each begins where the last one ended. So are those of a record, whose places are
-    // written with them.
+    // written with them; the two stay apart, since heads and separators differ.
     #[cycle(shown_values)]
     fn array(&mut self, depth: u8) -> fmt::Result {
         let Some(&[_, a, b, c, d, e, f]) = self.take::<7>() else {

@@ -1,4 +1,5 @@
-ghost use Rattle.std.specs.Prelude.{◌≡◌, [], ◌∷◌, length, slice_index};
+ghost use Rattle.std.specs.Prelude.{◌≡◌, [], ◌∷◌, true, false, length, slice_index, MatchResult};
+ghost use Rattle.values.specs.declared.refusal.Refusal.TheVariants.{Clash};
 ghost use Rattle.std.specs.List.{slice_get};
 ghost use Rattle.values.specs.Rows.{used};
 ghost use Rattle.values.specs.Tables.{rows_of};
@@ -138,17 +139,24 @@ pub(crate) fn end_noted(head: Head, results: Members) -> Kind
     }
 }
 
-// Each judgement ends in a test and a clash of its own: a test that is shared and asked by `?` would be as long.
 impl Parent<'_> {
+    // Refuses the record unless this holds.
+    pub(crate) fn clash_unless(&self, holds: bool) -> Result<(), Refusal>
+        ensures { MatchResult result (λ _. holds ≡ true) (λ e. (holds ≡ false) × (e ≡ Clash self.now.start)) }
+    {
+        if holds {
+            Ok(())
+        } else {
+            Err(Refusal::Clash(self.start))
+        }
+    }
+
     fn unary(&self, operation: Unary, part: Members) -> Result<Members, Refusal>
         ensures { Judged (judge_one (context_in self.now.scene) (unary operation) (used part) self.now.start) result }
     {
         let number = only(part).ok_or(Refusal::Clash(self.start))?;
-        if takes_operand(&self.scene.tables.types, operation, number) {
-            Ok(single(gives_type(operation)))
-        } else {
-            Err(Refusal::Clash(self.start))
-        }
+        self.clash_unless(takes_operand(&self.scene.tables.types, operation, number))?;
+        Ok(single(gives_type(operation)))
     }
 
     fn call(&self, function: u8, part: Members) -> Result<Members, Refusal>
@@ -158,22 +166,16 @@ impl Parent<'_> {
         let callee = functions
             .get(function as usize)
             .ok_or(Refusal::Clash(self.start))?;
-        if callee.parameters == part {
-            Ok(callee.results)
-        } else {
-            Err(Refusal::Clash(self.start))
-        }
+        self.clash_unless(callee.parameters == part)?;
+        Ok(callee.results)
     }
 
     fn record(&self, number: u8, part: Members) -> Result<Members, Refusal>
         ensures { Judged (judge_one (context_in self.now.scene) (record_of number) (used part) self.now.start) result }
     {
         let fields = fields_of(&self.scene.tables.types, number).ok_or(Refusal::Clash(self.start))?;
-        if fields == part {
-            Ok(single(number))
-        } else {
-            Err(Refusal::Clash(self.start))
-        }
+        self.clash_unless(fields == part)?;
+        Ok(single(number))
     }
 
     fn field(&self, field: u8, part: Members) -> Result<Members, Refusal>
@@ -191,11 +193,8 @@ impl Parent<'_> {
         let types = &self.scene.tables.types;
         let constituents = tags_of(types, number).ok_or(Refusal::Clash(self.start))?;
         let constituent = constituents.get(tag).ok_or(Refusal::Clash(self.start))?;
-        if is_one(constituent, part) {
-            Ok(single(number))
-        } else {
-            Err(Refusal::Clash(self.start))
-        }
+        self.clash_unless(is_one(constituent, part))?;
+        Ok(single(number))
     }
 
     // The types of a record with one part, whose values have these types.
@@ -215,11 +214,8 @@ impl Parent<'_> {
         ensures { Judged (judge_two (context_in self.now.scene) (binary operation) (used first) (used second) self.now.start) result }
     {
         let number = operand_type(operation);
-        if is_one(number, first) && is_one(number, second) {
-            Ok(single(result_type(operation)))
-        } else {
-            Err(Refusal::Clash(self.start))
-        }
+        self.clash_unless(is_one(number, first) && is_one(number, second))?;
+        Ok(single(result_type(operation)))
     }
 
     fn array(&self, number: u8, low: Members, elements: Members) -> Result<Members, Refusal>
@@ -227,11 +223,8 @@ impl Parent<'_> {
     {
         let types = &self.scene.tables.types;
         let element = element_of(types, number).ok_or(Refusal::Clash(self.start))?;
-        if is_one(1, low) && all_are(element, elements) {
-            Ok(single(number))
-        } else {
-            Err(Refusal::Clash(self.start))
-        }
+        self.clash_unless(is_one(1, low) && all_are(element, elements))?;
+        Ok(single(number))
     }
 
     fn element(&self, array: Members, index: Members) -> Result<Members, Refusal>
@@ -240,11 +233,8 @@ impl Parent<'_> {
         let number = only(array).ok_or(Refusal::Clash(self.start))?;
         let types = &self.scene.tables.types;
         let element = element_of(types, number).ok_or(Refusal::Clash(self.start))?;
-        if is_one(1, index) {
-            Ok(single(element))
-        } else {
-            Err(Refusal::Clash(self.start))
-        }
+        self.clash_unless(is_one(1, index))?;
+        Ok(single(element))
     }
 
     // The types of a record with two parts, whose values have these types.
@@ -270,11 +260,8 @@ impl Parent<'_> {
         let number = only(test).ok_or(Refusal::Clash(self.start))?;
         let types = &self.scene.tables.types;
         let constituents = tags_of(types, number).ok_or(Refusal::Clash(self.start))?;
-        if arms == constituents.count() {
-            Ok(constituents)
-        } else {
-            Err(Refusal::Clash(self.start))
-        }
+        self.clash_unless(arms == constituents.count())?;
+        Ok(constituents)
     }
 
     // The scope with the names that the record at start binds.

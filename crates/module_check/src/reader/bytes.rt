@@ -91,9 +91,6 @@ impl Reader {
         for number in &mut numbers[..n as usize] {
             *number = self.type_use(bytes, rows)?;
         }
-        let Some(members) = Members::new(numbers, n) else {
-            unreachable()
-        };
-        Ok(members)
+        Ok(Members::new(numbers, n).unwrap())
     }
 }

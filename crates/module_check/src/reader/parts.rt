@@ -46,8 +46,9 @@ impl Reader {
         self.nodes[here] = Node { kind, span };
     }
 
-    // An expression: the types of its values. An expression and the end of a loop call each other, with the unread bytes
-    // falling: a rule of the project, so each kind of record that goes on there has a function for either.
+    // An expression: the types of its values. The end of a loop is told its results and names, and answers nothing: one
+    // function for an expression and for an end would take these as an Option and answer one, so that each kind of record
+    // that may stand at either has a function for each.
     #[cycle(expressions)]
     pub(crate) fn expr(&mut self, scene: &Scene) -> Result<Members, Refusal>
         ensures { GoesOn (ExprRead (counts_in scene.now) (expr_in scene.now (names_in scene.now) self.old.at)) self.old self.new result }

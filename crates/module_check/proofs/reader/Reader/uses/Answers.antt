@@ -34,7 +34,7 @@ pub returns-clause-reads : goal.returns-clause-reads
 unfolding uses_at
 returns-clause-reads c =
     let I = c.loop-number.invariant in
-    let M = c.in-Some.ensures in
+    let M = rw c.unwrap.ensures at c.new.ensures in
     let f : Unit {0} → ℕ → Out ℕ = λ _ q. use_at (c.args.rows + 2) c.args.bytes.now q in
-    filled f c.args.n c.args.self.now.at c.loop-number.number-index c.loop-number.self.at c.loop-number.number-items c.in-Some.members
+    filled f c.args.n c.args.self.now.at c.loop-number.number-index c.loop-number.self.at c.loop-number.number-items c.unwrap.result
     (omega (arith, I.2, c.loop-number.auto.number-items)) (omega (arith, I.2, c.loop-number.auto.number-items, c.loop-number.auto.number-index-end)) I.2 I.3 M.0 M.1
