@@ -131,6 +131,8 @@ impl Reader {
         Ok(types)
     }
 
+    // Tests that are joined, here and in `forall`, are asked by an `if`: as an argument of `clash_unless` their branches meet
+    // before the call, and the proof loses which of them failed.
     #[cycle(expressions)]
     fn branch(&mut self, parent: &Parent) -> Result<Members, Refusal>
         ensures { GoesOn (PartsRead (counts_in parent.now.scene) if_head (if_at (expr_in parent.now.scene) (names_in parent.now.scene) parent.now.start self.old.at)) self.old self.new result }
@@ -188,11 +190,8 @@ impl Reader {
             first = Some(shared);
         }
         let Some(types) = first else { unreachable() };
-        if agree {
-            Ok(types)
-        } else {
-            Err(Refusal::Clash(parent.start))
-        }
+        parent.clash_unless(agree)?;
+        Ok(types)
     }
 
     #[cycle(expressions)]
@@ -235,11 +234,8 @@ impl Reader {
         ensures { GoesOn (AskedRead (counts_in parent.now.scene) (used types) parent.now.start (expr_in parent.now.scene (names_in parent.now.scene) self.old.at)) self.old self.new result }
     {
         let found = self.expr(&parent.scene)?;
-        if types == found {
-            Ok(())
-        } else {
-            Err(Refusal::Clash(parent.start))
-        }
+        parent.clash_unless(types == found)?;
+        Ok(())
     }
 
     // The end of a loop. An expression there has the loop's results, and is judged at its own record.
@@ -296,11 +292,8 @@ impl Reader {
         let test = self.expr(&parent.scene)?;
         self.end(&parent.scene, enclosing)?;
         self.end(&parent.scene, enclosing)?;
-        if is_one(0, test) {
-            Ok(())
-        } else {
-            Err(Refusal::Clash(parent.start))
-        }
+        parent.clash_unless(is_one(0, test))?;
+        Ok(())
     }
 
     #[cycle(expressions)]

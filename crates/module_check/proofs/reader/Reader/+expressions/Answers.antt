@@ -39,12 +39,12 @@ forall-returns-then-is_one-3 t c =
     let Z = c.in_ok-types.ensures in
     record { later = omega (arith, X.later, Y.later, Z.later); reads = forall_read (counts_in c.args.parent.now.scene) (expr_in c.args.parent.now.scene) (names_in c.args.parent.now.scene) c.args.parent.now.start c.args.self.now.at c.args.merge c.args.part X.reads.0 Y.reads.0 Z.reads.0 _ _ _ _ _ c.single-then-is_one-3.result _ _ _ _ _ _ _ X.reads.1 Y.reads.1 c.single.ensures I Z.reads.1 (sym c.is_one.ensures ∙ c.if-is_one.true) (sym c.is_one-then-is_one.ensures ∙ c.if-is_one-2.true) (sym c.is_one-then-is_one-2.ensures ∙ c.if-is_one-3.true) (c.single-then-is_one-3.ensures ∙ ap (λ z. z ∷ []) c.merge_type.ensures) X.reads.2 Y.reads.2 Z.reads.2 }
 
-pub end_if-returns-then-is_one : goal.end_if-returns-then-is_one
-end_if-returns-then-is_one t c =
+pub end_if-returns : goal.end_if-returns
+end_if-returns t c =
     let X = c.in_ok-test.ensures in
     let Y = c.in_ok-end.ensures in
     let Z = c.in_ok-end-2.ensures in
-    record { later = omega (arith, X.later, Y.later, Z.later); reads = if_end_read (counts_in c.args.parent.now.scene) (expr_in c.args.parent.now.scene) (end_in c.args.parent.now.scene) (used c.args.enclosing.results) (used c.args.enclosing.names) (names_in c.args.parent.now.scene) c.args.parent.now.start c.args.self.now.at X.reads.0 _ Y.reads.0 Z.reads.0 _ _ _ _ _ _ _ X.reads.1 Y.reads.1 Z.reads.1 (sym c.is_one.ensures ∙ c.if-is_one.true) X.reads.2 Y.reads.2 Z.reads.2 }
+    record { later = omega (arith, X.later, Y.later, Z.later); reads = if_end_read (counts_in c.args.parent.now.scene) (expr_in c.args.parent.now.scene) (end_in c.args.parent.now.scene) (used c.args.enclosing.results) (used c.args.enclosing.names) (names_in c.args.parent.now.scene) c.args.parent.now.start c.args.self.now.at X.reads.0 _ Y.reads.0 Z.reads.0 _ _ _ _ _ _ _ X.reads.1 Y.reads.1 Z.reads.1 (sym c.is_one.ensures ∙ c.in_ok-clash_unless.ensures) X.reads.2 Y.reads.2 Z.reads.2 }
 
 pub parts-returns-in-Leaf : goal.parts-returns-in-Leaf
 parts-returns-in-Leaf t c =
@@ -239,25 +239,27 @@ arms-returns-in_err-types t c =
     let B = c.in_err-types.ensures in
     record { later = omega (arith, I.0, B.later); reads = rw (p.1, p.2) (arming_fails (counts_in c.args.parent.now.scene) (expr_in c.args.parent.now.scene) (used c.args.constituents) (names_in c.args.parent.now.scene) c.args.self.now.at (vec_items c.args.self.now.nodes) c.args.parent.now.start c.loop-constituent.constituent-index c.loop-constituent.agree _ c.loop-constituent.self.at (shared c.loop-constituent.first) _ I.2 l (subst (λ z. Declines ((expr_in c.args.parent.now.scene) z c.loop-constituent.self.at) c.in_err-types.field-0.0) under B.reads)) }
 
-pub arms-returns-then-agree : goal.arms-returns-then-agree
-arms-returns-then-agree t c =
+pub arms-returns : goal.arms-returns
+arms-returns t c =
     let I = c.loop-constituent.invariant in
     let S = c.as_slice-constituent-items.ensures in
     let le : length (used c.args.constituents) ≤ c.loop-constituent.constituent-index = subst (λ xs. length xs ≤ c.loop-constituent.constituent-index) S c.loop-constituent-test.false in
     let ge : c.loop-constituent.constituent-index ≤ length (used c.args.constituents) = subst (λ xs. c.loop-constituent.constituent-index ≤ length xs) S c.loop-constituent.auto.constituent-index-end in
     let some : 1 ≤ c.loop-constituent.constituent-index = omega (arith, (members_few c.args.constituents).some) in
-    let all = subst (λ o. Arming (counts_in c.args.parent.now.scene) (expr_in c.args.parent.now.scene) (used c.args.constituents) (names_in c.args.parent.now.scene) c.args.self.now.at (vec_items c.args.self.now.nodes) (shared o) c.loop-constituent.constituent-index true (vec_items c.loop-constituent.self.nodes) c.loop-constituent.self.at) c.in-Some.is (subst (λ b. Arming (counts_in c.args.parent.now.scene) (expr_in c.args.parent.now.scene) (used c.args.constituents) (names_in c.args.parent.now.scene) c.args.self.now.at (vec_items c.args.self.now.nodes) (shared c.loop-constituent.first) c.loop-constituent.constituent-index b (vec_items c.loop-constituent.self.nodes) c.loop-constituent.self.at) c.if-agree.true I.2) in
+    let all = subst (λ o. Arming (counts_in c.args.parent.now.scene) (expr_in c.args.parent.now.scene) (used c.args.constituents) (names_in c.args.parent.now.scene) c.args.self.now.at (vec_items c.args.self.now.nodes) (shared o) c.loop-constituent.constituent-index true (vec_items c.loop-constituent.self.nodes) c.loop-constituent.self.at) c.in-Some.is (subst (λ b. Arming (counts_in c.args.parent.now.scene) (expr_in c.args.parent.now.scene) (used c.args.constituents) (names_in c.args.parent.now.scene) c.args.self.now.at (vec_items c.args.self.now.nodes) (shared c.loop-constituent.first) c.loop-constituent.constituent-index b (vec_items c.loop-constituent.self.nodes) c.loop-constituent.self.at) c.in_ok-clash_unless.ensures I.2) in
     record { later = I.0; reads = arming_done (counts_in c.args.parent.now.scene) (expr_in c.args.parent.now.scene) (used c.args.constituents) (names_in c.args.parent.now.scene) c.args.self.now.at (vec_items c.args.self.now.nodes) c.args.parent.now.start c.loop-constituent.constituent-index _ c.loop-constituent.self.at c.in-Some.types all le ge some }
 
-pub arms-returns-else-agree : goal.arms-returns-else-agree
-arms-returns-else-agree t c =
+pub arms-returns-in_err-clash_unless : goal.arms-returns-in_err-clash_unless
+arms-returns-in_err-clash_unless t c =
+    let p = err_from_is_err_and c.from_residual-in_err-clash_unless.result c.from_residual-in_err-clash_unless.ensures.1 in
+    let k = c.in_err-clash_unless.ensures in
     let I = c.loop-constituent.invariant in
     let S = c.as_slice-constituent-items.ensures in
     let le : length (used c.args.constituents) ≤ c.loop-constituent.constituent-index = subst (λ xs. length xs ≤ c.loop-constituent.constituent-index) S c.loop-constituent-test.false in
     let ge : c.loop-constituent.constituent-index ≤ length (used c.args.constituents) = subst (λ xs. c.loop-constituent.constituent-index ≤ length xs) S c.loop-constituent.auto.constituent-index-end in
     let some : 1 ≤ c.loop-constituent.constituent-index = omega (arith, (members_few c.args.constituents).some) in
-    let all = subst (λ b. Arming (counts_in c.args.parent.now.scene) (expr_in c.args.parent.now.scene) (used c.args.constituents) (names_in c.args.parent.now.scene) c.args.self.now.at (vec_items c.args.self.now.nodes) (shared c.loop-constituent.first) c.loop-constituent.constituent-index b (vec_items c.loop-constituent.self.nodes) c.loop-constituent.self.at) c.if-agree.false I.2 in
-    record { later = I.0; reads = inr (arming_clash (counts_in c.args.parent.now.scene) (expr_in c.args.parent.now.scene) (used c.args.constituents) (names_in c.args.parent.now.scene) c.args.self.now.at (vec_items c.args.self.now.nodes) c.args.parent.now.start c.loop-constituent.constituent-index _ c.loop-constituent.self.at (shared c.loop-constituent.first) all le some) }
+    let all = subst (λ b. Arming (counts_in c.args.parent.now.scene) (expr_in c.args.parent.now.scene) (used c.args.constituents) (names_in c.args.parent.now.scene) c.args.self.now.at (vec_items c.args.self.now.nodes) (shared c.loop-constituent.first) c.loop-constituent.constituent-index b (vec_items c.loop-constituent.self.nodes) c.loop-constituent.self.at) k.0 I.2 in
+    record { later = I.0; reads = rw (p.1, p.2, k.1) (inr (arming_clash (counts_in c.args.parent.now.scene) (expr_in c.args.parent.now.scene) (used c.args.constituents) (names_in c.args.parent.now.scene) c.args.self.now.at (vec_items c.args.self.now.nodes) c.args.parent.now.start c.loop-constituent.constituent-index _ c.loop-constituent.self.at (shared c.loop-constituent.first) all le some)) }
 
 pub ends-loop-constituent-init : goal.ends-loop-constituent-init
 ends-loop-constituent-init t c = (omega arith, ending_none (counts_in c.args.scene.now) (end_in c.args.scene.now) (used c.args.enclosing.results) (used c.args.enclosing.names) (used c.args.constituents) (names_in c.args.scene.now) c.args.self.now.at (vec_items c.args.self.now.nodes))
