@@ -269,6 +269,17 @@ impl Reader {
         Ok(Head::Two(Two::Array(number)))
     }
 
+    // The head of a record without a body.
+    fn bare(&mut self, bytes: &[u8], head: Head) -> Head
+        requires { self.old.at < length bytes.now }
+        ensures kept { self.new.nodes ≡ self.old.nodes }
+        ensures behind { self.new.at ≡ self.old.at + 1 }
+        ensures head { result ≡ head }
+    {
+        self.at += 1;
+        head
+    }
+
     // What the record that begins here says before its parts.
     pub(crate) fn head(&mut self, scene: &Scene, sort: Sort) -> Result<Head, Refusal>
         requires { self.old.at < length scene.now.bytes.now }
@@ -281,30 +292,18 @@ impl Reader {
             Sort::Error => self.error_head(scene),
             Sort::Name => self.name_head(scene),
             Sort::Operation => self.operation_head(scene.bytes),
-            Sort::If => {
-                self.at += 1;
-                Ok(Head::If)
-            }
-            Sort::Let => {
-                self.at += 1;
-                Ok(Head::Let)
-            }
+            Sort::If => Ok(self.bare(scene.bytes, Head::If)),
+            Sort::Let => Ok(self.bare(scene.bytes, Head::Let)),
             Sort::Tagcase => self.tagcase_head(scene.bytes),
             Sort::For => self.for_head(scene),
-            Sort::Iter => {
-                self.at += 1;
-                Ok(Head::Iter)
-            }
+            Sort::Iter => Ok(self.bare(scene.bytes, Head::Iter)),
             Sort::Forall => self.forall_head(scene),
             Sort::Call => self.call_head(scene),
             Sort::Record => self.record_head(scene),
             Sort::Field => self.field_head(scene.bytes),
             Sort::Union => self.union_head(scene),
             Sort::Array => self.array_head(scene),
-            Sort::Element => {
-                self.at += 1;
-                Ok(Head::Two(Two::Element))
-            }
+            Sort::Element => Ok(self.bare(scene.bytes, Head::Two(Two::Element))),
         }
     }
 }
