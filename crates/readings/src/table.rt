@@ -2,7 +2,7 @@ ghost use Rattle.std.specs.Prelude.{◌<◌, IfOk, vec_len};
 
 use crate::field::reading;
 use numbers::Integer;
-use std::alloc::{AllocError, Global};
+use std::alloc::{AllocError, AllocFailed, Global};
 use thiserror::Error;
 
 // A column of a table: its name and its readings from top to bottom.
@@ -34,7 +34,20 @@ pub enum Misread {
         columns: usize,
     },
     #[error("out of memory")]
-    Memory(#[from(alloc)] AllocError),
+    Memory,
+}
+
+// By hand, since the derive would have the variant hold the error.
+impl From<AllocError> for Misread {
+    fn from(_: AllocError) -> Misread {
+        Misread::Memory
+    }
+}
+
+impl<T: Drop> From<AllocFailed<T>> for Misread {
+    fn from(_: AllocFailed<T>) -> Misread {
+        Misread::Memory
+    }
 }
 
 // Reads a table: a line of column names, then a line of readings for each point.
