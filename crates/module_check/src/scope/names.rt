@@ -31,7 +31,8 @@ impl Scope {
         self.count >= 96
     }
 
-    // The scope with one more name.
+    // The scope with one more name. That there is room stands here and at its two callers: a type of scopes with room would be
+    // made by the same test, and unmade by each name.
     pub(crate) fn with(&self, name: u8) -> Scope
         requires { length (names self.now) < 96 }
         ensures { names result ≡ names self.now ++ name ∷ [] }
