@@ -5,33 +5,31 @@
 use arithmetic::{abs, divide, minus, modulo, negate, plus, times};
 use numbers::{BasicFault, Boolean, Fault, Integer};
 use ordering::{at_least, at_most, equal, greater, less, max, min, unequal};
-use std::alloc::{AllocError, Global};
 use std::fmt::Display;
+use std::io;
 
-const FAULTS: [Fault; 6] = [
-    Fault::Undef,
-    Fault::MissElt,
-    Fault::PosOver,
-    Fault::NegOver,
-    Fault::Unknown,
-    Fault::ZeroDivide,
-];
-
-const NUMBERS: [i64; 14] = [
-    -2147483647,
-    -2147483646,
-    -46341,
-    -7,
-    -2,
-    -1,
-    0,
-    1,
-    2,
-    7,
-    46340,
-    65536,
-    2147483646,
-    2147483647,
+// The proper operands, then the six error values.
+const OPERANDS: [Result<i64, Fault>; 20] = [
+    Ok(-2147483647),
+    Ok(-2147483646),
+    Ok(-46341),
+    Ok(-7),
+    Ok(-2),
+    Ok(-1),
+    Ok(0),
+    Ok(1),
+    Ok(2),
+    Ok(7),
+    Ok(46340),
+    Ok(65536),
+    Ok(2147483646),
+    Ok(2147483647),
+    Err(Fault::Undef),
+    Err(Fault::MissElt),
+    Err(Fault::PosOver),
+    Err(Fault::NegOver),
+    Err(Fault::Unknown),
+    Err(Fault::ZeroDivide),
 ];
 
 const TRUTHS: [Boolean; 4] = [
@@ -41,16 +39,11 @@ const TRUTHS: [Boolean; 4] = [
     Boolean::Error(BasicFault::MissElt),
 ];
 
-// The proper operands, then the six error values.
-fn operands(heap: Global) -> Result<Vec<Integer>, AllocError> {
-    let mut operands = Vec::new(heap);
-    for number in NUMBERS {
-        operands.push(Integer::judge(number))?;
+fn integer(operand: Result<i64, Fault>) -> Integer {
+    match operand {
+        Ok(number) => Integer::judge(number),
+        Err(fault) => Integer::Error(fault),
     }
-    for fault in FAULTS {
-        operands.push(Integer::Error(fault))?;
-    }
-    Ok(operands)
 }
 
 // An operation at every pair of operands.
@@ -59,7 +52,7 @@ fn table<T: Display + Drop, F: Fn(Integer, Integer) -> T>(
     operands: &[Integer],
     name: &str,
     operation: F,
-) -> anyhow::Result<()>
+) -> io::Result<()>
     requires { F.IsAlwaysCallable operation }
 {
     for j in operands {
@@ -73,13 +66,13 @@ fn table<T: Display + Drop, F: Fn(Integer, Integer) -> T>(
 }
 
 // Negation, magnitude and the seven tests of one integer.
-fn singles(rt: &HostRuntime, operands: &[Integer]) -> anyhow::Result<()> {
+fn singles(rt: &HostRuntime, operands: &[Integer]) -> io::Result<()> {
     for &j in operands {
         let negated = negate(j);
         let magnitude = abs(j);
         let error = j.is_error();
         print!(rt; "one {j}: {negated} {magnitude} {error}")?;
-        for fault in FAULTS {
+        for fault in OPERANDS.into_iter().filter_map(Result::err) {
             let is = j.is_fault(fault);
             print!(rt; " {is}")?;
         }
@@ -88,7 +81,7 @@ fn singles(rt: &HostRuntime, operands: &[Integer]) -> anyhow::Result<()> {
     Ok(())
 }
 
-fn truths(rt: &HostRuntime) -> anyhow::Result<()> {
+fn truths(rt: &HostRuntime) -> io::Result<()> {
     for p in TRUTHS {
         let inverse = p.not();
         let error = p.is_error();
@@ -103,7 +96,7 @@ fn truths(rt: &HostRuntime) -> anyhow::Result<()> {
     Ok(())
 }
 
-fn with_each_truth<F: Fn(Boolean) -> Boolean>(rt: &HostRuntime, operation: F) -> anyhow::Result<()>
+fn with_each_truth<F: Fn(Boolean) -> Boolean>(rt: &HostRuntime, operation: F) -> io::Result<()>
     requires { F.IsAlwaysCallable operation }
 {
     for q in TRUTHS {
@@ -113,7 +106,7 @@ fn with_each_truth<F: Fn(Boolean) -> Boolean>(rt: &HostRuntime, operation: F) ->
 }
 
 // What lies outside the range is judged, and the number that 32 bits have besides is none.
-fn judged(rt: &HostRuntime) -> anyhow::Result<()> {
+fn judged(rt: &HostRuntime) -> io::Result<()> {
     for value in [
         -9223372036854775808,
         -2147483648,
@@ -135,8 +128,8 @@ fn judged(rt: &HostRuntime) -> anyhow::Result<()> {
     Ok(())
 }
 
-fn main(rt: HostRuntime) -> anyhow::Result<()> {
-    let operands = operands(rt.alloc())?;
+fn main(rt: HostRuntime) -> io::Result<()> {
+    let operands = OPERANDS.map(integer);
     table(&rt, &operands, "+", plus)?;
     table(&rt, &operands, "-", minus)?;
     table(&rt, &operands, "*", times)?;
