@@ -13,8 +13,9 @@ use Rattle.numbers.specs.Integers.{barred}
 use Rattle.merging.specs.Operators.{meaning}
 use Rattle.merging.specs.Operations.{OperationLaws, combining}
 use Rattle.merging.specs.Free.{from_last, tallied-from_last}
-use Rattle.merging.specs.Combining.{combining_free}
+use Rattle.merging.specs.Combining.{combining_free, neutral_kept_by}
 use Rattle.choices.specs.Extremes.{Chosen}
+use Rattle.choices.specs.Tallies.{Tally, NoMissedTally, unbarred_tally}
 
 -- The one of two integers that has the higher rank.
 abbrev pub chosen_by : (Integer → ℤ) → Integer → Integer → Integer
@@ -87,6 +88,19 @@ module _ {rank : Integer → ℤ} {start : Integer} {top : ℤ} {of_rank : ℤ �
 
   pub choosing_laws : OperationLaws start choose
   choosing_laws = record { assoc = choose_assoc; comm = choose_comm; neutral_kept = yields start r.start_open }
+
+  -- No choice is miss_elt or zero_divide.
+  chosen_tally : (a b : Integer) → Tally (choose a b)
+  chosen_tally a b =
+      cond_both (barred a || barred b) (Error Undef) (by_rank a b) Tally
+      (λ _. tt)
+      (λ e.
+      let open_both = or_parts (barred a) (barred b) e in
+      cond_both (int_lt (rank a) (rank b)) b a Tally (λ _. unbarred_tally b open_both.1) (λ _. unbarred_tally a open_both.0))
+
+  -- So no tally of parts is either: it is the choice between the start and itself.
+  pub choosing_tallies : NoMissedTally (combining start choose)
+  choosing_tallies n t s = subst Tally (neutral_kept_by choosing_laws s) (chosen_tally start t)
 
   bars : (a b : Integer) → (barred a || barred b) ≡ true → choose a b ≡ Error Undef
   bars a b e = cond-true (barred a || barred b) _ _ e

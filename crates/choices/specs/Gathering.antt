@@ -11,8 +11,8 @@ use Rattle.numbers.specs.Booleans.{both, either, is_error}
 use Rattle.merging.specs.Operators.{Laws, meaning}
 use Rattle.merging.specs.Operations.{OperationLaws, combining}
 use Rattle.merging.specs.Free.{from_last, tallied-from_last}
-use Rattle.merging.specs.Combining.{combining_free, combining_laws}
-use Rattle.choices.specs.Truths.{all_of, some_of, is_true, unless_error, AndAll, OrSome}
+use Rattle.merging.specs.Combining.{combining_free, combining_laws, neutral_kept_by}
+use Rattle.choices.specs.Truths.{all_of, some_of, is_true, unless_error, AndAll, OrSome, Tally, NoMissedTally}
 
 -- An operation on truth values, undef where either is an error.
 abbrev lifted : (Bool → Bool → Bool) → Boolean → Boolean → Boolean
@@ -45,6 +45,16 @@ module _ {op : Bool → Bool → Bool} {start : Bool} (g : Gathers op start) whe
 
   gathering_laws : OperationLaws (Proper start) (lifted op)
   gathering_laws = record { assoc = lifted_assoc; comm = lifted_comm; neutral_kept = ap Proper (g.neutral start) }
+
+  -- The operation never gives miss_elt.
+  lifted_tally : (a b : Boolean) → Tally (lifted op a b)
+  lifted_tally (Proper a) (Proper b) = tt
+  lifted_tally (Proper a) (Error f) = refl
+  lifted_tally (Error f) b = refl
+
+  -- So no tally of parts is miss_elt: it is what the operation gives for the start and itself.
+  gathering_tallies : NoMissedTally (combining (Proper start) (lifted op))
+  gathering_tallies n t s = subst Tally (neutral_kept_by gathering_laws s) (lifted_tally (Proper start) t)
 
   -- One truth value more, before a list's or the error of the list.
   lifted_first : (p t error : Bool) → lifted op (Proper p) (cond error (Error Undef) (Proper t)) ≡ cond error (Error Undef) (Proper (op p t))
@@ -115,3 +125,10 @@ and_lawful = combining_laws and_laws
 
 pub or_lawful : Laws some_of
 or_lawful = combining_laws or_laws
+
+-- No tally of and, nor of or, is miss_elt.
+pub tallies_of_and : NoMissedTally all_of
+tallies_of_and = subst (λ op. NoMissedTally (combining (Proper true) op)) lifted_both (gathering_tallies and_gathers)
+
+pub tallies_of_or : NoMissedTally some_of
+tallies_of_or = subst (λ op. NoMissedTally (combining (Proper false) op)) lifted_either (gathering_tallies or_gathers)

@@ -13,7 +13,8 @@ use Rattle.merging.specs.Operators.{Laws}
 use Rattle.merging.specs.Operations.{OperationLaws}
 use Rattle.merging.specs.Combining.{combining_laws}
 use Rattle.choices.specs.Extremes.{greatest_of, MaxGreatest}
-use Rattle.choices.specs.Choosing.{Ranks, choosing_laws, chosen}
+use Rattle.choices.specs.Tallies.{NoMissedTally}
+use Rattle.choices.specs.Choosing.{Ranks, choosing_laws, choosing_tallies, chosen}
 
 -- What has a rank; undef for the rank of what is barred.
 abbrev of_rank : ℤ → Integer
@@ -72,3 +73,7 @@ max_greatest ps = chosen max_ranks ps
 -- So max is a lawful operator.
 pub max_lawful : Laws greatest_of
 max_lawful = combining_laws max_laws
+
+-- No tally of max is miss_elt or zero_divide.
+pub tallies_of_max : NoMissedTally greatest_of
+tallies_of_max = choosing_tallies max_ranks

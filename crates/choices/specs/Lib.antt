@@ -1,3 +1,4 @@
+pub mod Tallies
 pub mod Extremes
 pub mod Truths
 pub mod Highest

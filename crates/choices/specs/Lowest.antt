@@ -15,7 +15,8 @@ use Rattle.merging.specs.Operators.{Laws, meaning}
 use Rattle.merging.specs.Operations.{OperationLaws, combining}
 use Rattle.merging.specs.Combining.{combining_laws}
 use Rattle.choices.specs.Extremes.{least_of, Chosen, MinLeast}
-use Rattle.choices.specs.Choosing.{chosen_by, Ranks, choosing_laws, chosen}
+use Rattle.choices.specs.Tallies.{NoMissedTally}
+use Rattle.choices.specs.Choosing.{chosen_by, Ranks, choosing_laws, choosing_tallies, chosen}
 
 abbrev down_rank : Integer → ℤ
 down_rank a = neg_ℤ (min_rank a)
@@ -95,3 +96,7 @@ min_least ps =
 -- So min is a lawful operator.
 pub min_lawful : Laws least_of
 min_lawful = combining_laws min_laws
+
+-- No tally of min is miss_elt or zero_divide.
+pub tallies_of_min : NoMissedTally least_of
+tallies_of_min = subst (λ m. NoMissedTally (combining (Error PosOver) m)) minimum_is (choosing_tallies min_ranks)

@@ -1,11 +1,11 @@
 -- The operators and and or, and what they mean for a list of booleans.
-use Rattle.std.specs.Prelude.{◌≡◌, Bool, true, false, cond, List}
+use Rattle.std.specs.Prelude.{◌≡◌, ℕ, Bool, true, false, cond, List}
 use Rattle.std.specs.List.{list_any, list_all}
 use Rattle.numbers.specs.declared.fault.BasicFault.TheVariants.{Undef}
 use Rattle.numbers.specs.declared.boolean.Boolean.{Boolean}
 use Rattle.numbers.specs.declared.boolean.Boolean.TheVariants.{Proper, Error}
 use Rattle.numbers.specs.Booleans.{both, either, is_error}
-use Rattle.merging.specs.Operators.{Definition, meaning}
+use Rattle.merging.specs.Operators.{Definition, Sized, meaning}
 use Rattle.merging.specs.Operations.{combining}
 
 -- And of no parts is true.
@@ -32,3 +32,12 @@ AndAll = (ps : List Boolean) → meaning all_of ps ≡ unless_error ps (list_all
 -- Or is true exactly where some part is true.
 abbrev pub OrSome : Type 0
 OrSome = (ps : List Boolean) → meaning some_of ps ≡ unless_error ps (list_any is_true ps)
+
+-- No tally is miss_elt.
+abbrev pub Tally : Boolean → Type 0
+Tally (Proper a) = Unit {0}
+Tally (Error f) = f ≡ Undef
+
+-- No parts, of whatever number, have the tally miss_elt.
+abbrev pub NoMissedTally : Definition Boolean Boolean Boolean → Type 0
+NoMissedTally d = (n : ℕ) (t : Boolean) → Sized d n t → Tally t

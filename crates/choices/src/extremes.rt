@@ -1,7 +1,8 @@
 ghost use Rattle.numbers.specs.declared.fault.Fault.TheVariants.{NegOver, PosOver};
 ghost use Rattle.numbers.specs.declared.integer.Integer.TheVariants.{Error};
 ghost use Rattle.ordering.specs.Ranking.{maximum, minimum};
-ghost use Rattle.choices.specs.Extremes.{MaxGreatest, MinLeast};
+ghost use Rattle.choices.specs.Extremes.{greatest_of, least_of, MaxGreatest, MinLeast};
+ghost use Rattle.choices.specs.Tallies.{NoMissedTally};
 ghost use Rattle.choices.specs.Highest.{max_laws};
 ghost use Rattle.choices.specs.Lowest.{min_laws};
 
@@ -50,12 +51,14 @@ impl Operation for Min {
     }
 }
 
-// What max means for every list.
+// What max means for every list; and no tally of parts is miss_elt or zero_divide.
 pub fn max_stands()
-    ensures { MaxGreatest }
+    ensures means { MaxGreatest }
+    ensures tallies { NoMissedTally greatest_of }
 {}
 
-// What min means for every list.
+// What min means for every list; and no tally of parts is miss_elt or zero_divide.
 pub fn min_stands()
-    ensures { MinLeast }
+    ensures means { MinLeast }
+    ensures tallies { NoMissedTally least_of }
 {}

@@ -1,7 +1,7 @@
 ghost use Rattle.std.specs.Prelude.{true, false};
 ghost use Rattle.numbers.specs.declared.boolean.Boolean.TheVariants.{Proper};
 ghost use Rattle.numbers.specs.Booleans.{both, either};
-ghost use Rattle.choices.specs.Truths.{AndAll, OrSome};
+ghost use Rattle.choices.specs.Truths.{all_of, some_of, AndAll, OrSome, NoMissedTally};
 ghost use Rattle.choices.specs.Gathering.{and_laws, or_laws};
 
 use merging::Operation;
@@ -49,12 +49,14 @@ impl Operation for Or {
     }
 }
 
-// What and means for every list.
+// What and means for every list; and no tally of parts is miss_elt.
 pub fn and_stands()
-    ensures { AndAll }
+    ensures means { AndAll }
+    ensures tallies { NoMissedTally all_of }
 {}
 
-// What or means for every list.
+// What or means for every list; and no tally of parts is miss_elt.
 pub fn or_stands()
-    ensures { OrSome }
+    ensures means { OrSome }
+    ensures tallies { NoMissedTally some_of }
 {}

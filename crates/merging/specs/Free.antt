@@ -1,7 +1,7 @@
 -- Operators whose laws need no count of parts, and what they mean for a list of any length.
-use Rattle.std.specs.Prelude.{◌≡◌, List, [], ◌∷◌, fold}
+use Rattle.std.specs.Prelude.{◌≡◌, ℕ, List, [], ◌∷◌, fold}
 use Rattle.std.proofs.Common.{sym, ap, ◌∙◌}
-use Rattle.merging.specs.Operators.{Definition, Laws, tallied}
+use Rattle.merging.specs.Operators.{Definition, Sized, Laws, tallied}
 use Rattle.merging.specs.Sizing.{Kept, every_sized}
 
 -- Join is associative and commutative for all tallies, and the start changes neither itself nor a part's tally.
@@ -23,11 +23,15 @@ module _ {P T C : Type 0} {d : Definition P T C} (laws : FreeLaws d) where
   kept : Kept d (λ n t. d.join d.start t ≡ t)
   kept = record { start_is = laws.start_kept; tally_is = laws.tally_kept; join_is = λ m n a b u v h. join_kept a b u }
 
+  -- The start changes no tally of parts, however many the parts are.
+  pub start_kept_by : {n : ℕ} {t : T} → Sized d n t → d.join d.start t ≡ t
+  start_kept_by = every_sized kept
+
   pub free_laws : Laws d
   free_laws = record {
     assoc = λ k m n a b c s t u h. laws.assoc a b c;
     comm = λ m n a b s t h. laws.comm a b;
-    neutral = λ n a s h. every_sized kept s;
+    neutral = λ n a s h. start_kept_by s;
   }
 
   onto-from_last : (ps : List P) (t : T) → d.join d.start t ≡ t → fold (λ s p. d.join s (d.tally p)) t ps ≡ d.join t (from_last d ps)

@@ -57,3 +57,13 @@ mul undefined k = undefined
 -- The product of two integers by their factors.
 abbrev pub multiplied : Integer → Integer → Integer
 multiplied a b = value (mul (factor a) (factor b))
+
+-- No tally is miss_elt or zero_divide.
+abbrev pub Tally : Integer → Type 0
+Tally (Proper n) = Unit {0}
+Tally (Error Undef) = Unit {0}
+Tally (Error MissElt) = ⊥
+Tally (Error PosOver) = Unit {0}
+Tally (Error NegOver) = Unit {0}
+Tally (Error Unknown) = Unit {0}
+Tally (Error ZeroDivide) = ⊥

@@ -1,6 +1,6 @@
 -- The laws of multiplication by sign and magnitude, up to what a factor comes to.
 use Rattle.std.specs.Prelude.{◌≡◌, ℕ, zero, suc, ◌*◌, ◌<◌, ◌≤◌, Bool, true, false, not, pos, neg_ℤ, ◌≤ℤ◌, refl}
-use Rattle.std.proofs.Common.{sym, ap, ◌∙◌, ⊎_elim, mul-zero, zero-mul, mul_comm, mul_assoc, one-mul, mul-pos, le-mul_of_pos_right, zero-lt-suc, arith}
+use Rattle.std.proofs.Common.{sym, ap, subst, ◌∙◌, ⊎_elim, mul-zero, zero-mul, mul_comm, mul_assoc, one-mul, mul-pos, le-mul_of_pos_right, zero-lt-suc, arith}
 use Rattle.std.proofs.lemmas.Int.{ints}
 use Rattle.std.proofs.lemmas.Bool.{cases_lt}
 use Rattle.numbers.specs.declared.number.Number.{Number}
@@ -9,7 +9,7 @@ use Rattle.numbers.specs.declared.integer.Integer.{Integer}
 use Rattle.numbers.specs.declared.integer.Integer.TheVariants.{Proper, Error}
 use Rattle.numbers.specs.Integers.{judged, greatest, least}
 use Rattle.numbers.proofs.Judging.{judged_proper, judged_above, judged_below}
-use Rattle.products.specs.Factors.{Factor, number, unknown, undefined, of_number, signed, factor, value, of_unknown, minus, mul}
+use Rattle.products.specs.Factors.{Factor, number, unknown, undefined, of_number, signed, factor, value, of_unknown, minus, mul, Tally}
 
 signed_in : (s : Bool) (m : ℕ) → m ≤ 2147483647 → (least ≤ℤ signed s m) × (signed s m ≤ℤ greatest)
 signed_in false m h = (omega (arith, ints), omega (arith, ints))
@@ -156,3 +156,17 @@ pub times_one : (k : Factor) → mul (number false 1) k ≡ k
 times_one (number t n) = ap (number t) (one-mul n)
 times_one unknown = refl
 times_one undefined = refl
+
+over_tally : (s : Bool) → Tally (over s)
+over_tally false = tt
+over_tally true = tt
+
+-- What a factor comes to can be a tally.
+pub value_tally : (k : Factor) → Tally (value k)
+value_tally (number s m) =
+    ⊎_elim
+    (λ h. subst Tally (sym (big s m h)) (over_tally s))
+    (λ h. subst Tally (sym (small s m h)) tt)
+    (cases_lt 2147483647 m)
+value_tally unknown = tt
+value_tally undefined = tt

@@ -1,13 +1,14 @@
 -- What times means for a list of integers.
-use Rattle.std.specs.Prelude.{◌≡◌, cond, List, [], ◌∷◌, ℤ, pos, negsuc, ◌*ℤ◌}
+use Rattle.std.specs.Prelude.{◌≡◌, ℕ, cond, List, [], ◌∷◌, ℤ, pos, negsuc, ◌*ℤ◌}
 use Rattle.std.specs.List.{list_any}
 use Rattle.numbers.specs.declared.fault.Fault.TheVariants.{Undef, MissElt, PosOver, NegOver, Unknown, ZeroDivide}
 use Rattle.numbers.specs.declared.integer.Integer.{Integer}
 use Rattle.numbers.specs.declared.integer.Integer.TheVariants.{Proper, Error}
 use Rattle.numbers.specs.Integers.{judged, is_fault, barred}
 use Rattle.arithmetic.specs.Arithmetic.{is_zero}
-use Rattle.merging.specs.Operators.{meaning}
+use Rattle.merging.specs.Operators.{Sized, meaning}
 use Rattle.products.specs.Times.{times}
+use Rattle.products.specs.Factors.{Tally}
 
 -- What a part multiplies by: a proper number itself, and an over 2147483648 with its sign. Where any other part occurs, no
 -- product is asked for.
@@ -37,3 +38,7 @@ product_of ps =
 -- The meaning of every list of parts.
 abbrev pub TimesMultiplies : Type 0
 TimesMultiplies = (ps : List Integer) → meaning times ps ≡ product_of ps
+
+-- No parts, of whatever number, have the tally miss_elt or zero_divide.
+abbrev pub NoMissedTally : Type 0
+NoMissedTally = (n : ℕ) (t : Integer) → Sized times n t → Tally t

@@ -4,7 +4,7 @@
 ghost use Rattle.std.specs.Prelude.{pos};
 ghost use Rattle.numbers.specs.Integers.{judged};
 ghost use Rattle.arithmetic.specs.Arithmetic.{product};
-ghost use Rattle.products.specs.Products.{TimesMultiplies};
+ghost use Rattle.products.specs.Products.{TimesMultiplies, NoMissedTally};
 ghost use Rattle.products.specs.TimesLaws.{times_laws};
 
 use merging::Operation;
@@ -31,7 +31,9 @@ impl Operation for Times {
     }
 }
 
-// What times means for every list, by what occurs in it and its exact product.
+// What times means for every list, by what occurs in it and its exact product; and no tally of parts is
+// miss_elt or zero_divide.
 pub fn times_stands()
-    ensures { TimesMultiplies }
+    ensures means { TimesMultiplies }
+    ensures tallies { NoMissedTally }
 {}
