@@ -48,7 +48,8 @@ pub fn minus(j: Integer, k: Integer) -> Integer
     plus(j, negate(k))
 }
 
-// J × K
+// J × K. It is put into the loops that merge, which the compiler by itself does in some of them only.
+#[inline(always)]
 pub fn times(j: Integer, k: Integer) -> Integer
     ensures { result ≡ product j k }
 {

@@ -20,7 +20,7 @@ two_more : (a b : ℕ) (rest : List ℕ) → hex (a ∷ (b ∷ rest)) ≡ first_
 unfolding hex
 two_more a b rest = refl
 
-next_two : (bs : List ℕ) (i : ℕ) → 2 * i + 1 < length bs → hex (drop (2 * i) bs) ≡ first_byte (byte_of (digit_value (get_or bs (2 * i) 0)) (digit_value (get_or bs (2 * i + 1) 0))) (hex (drop (2 * (i + 1)) bs))
+pub next_two : (bs : List ℕ) (i : ℕ) → 2 * i + 1 < length bs → hex (drop (2 * i) bs) ≡ first_byte (byte_of (digit_value (get_or bs (2 * i) 0)) (digit_value (get_or bs (2 * i + 1) 0))) (hex (drop (2 * (i + 1)) bs))
 next_two bs i h =
     let one : suc (2 * i) ≡ 2 * i + 1 = omega arith in
     let two : suc (2 * i + 1) ≡ 2 * (i + 1) = omega arith in

@@ -38,11 +38,13 @@ fn parse_row(part: &str, place: usize) -> Result<Row, Problem> {
     row.ok_or(Problem::NoMembers { place })
 }
 
-// The array and the count beside it are what Members::new takes, which refuses more than eight.
+// The array and the count beside it are what Members::new takes; a ninth number has no place in it.
 fn parse_members(text: &str) -> Option<Members> {
     let mut numbers = [0; 8];
-    for (number, word) in numbers.iter_mut().zip(text.split(',')) {
-        *number = word.parse().ok()?;
+    let mut count = 0u8;
+    for (place, word) in text.split(',').enumerate() {
+        *numbers.get_mut(place)? = word.parse().ok()?;
+        count = count.saturating_add(1);
     }
-    Members::new(numbers, u8::try_from(text.split(',').count()).ok()?)
+    Members::new(numbers, count)
 }
