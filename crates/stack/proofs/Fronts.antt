@@ -6,15 +6,15 @@ use Rattle.stack.specs.declared.heads.Head.{Head}
 use Rattle.stack.specs.declared.heads.Head.TheVariants.{Array, Record, Union}
 use Rattle.stack.specs.Heads.{array_head, record_head, HeadsArray, HeadsRecord, HeadsUnion, HeadsValues}
 
-array_heads : (low : Number) (count : ℕ) → HeadsArray low count
+pub array_heads : (low : Number) (count : ℕ) → HeadsArray low count
 unfolding encode
 array_heads low count vs e = ap (λ n. array_head low n ++ encode_row vs) e
 
-record_heads : (count : ℕ) → HeadsRecord count
+pub record_heads : (count : ℕ) → HeadsRecord count
 unfolding encode
 record_heads count vs e = ap (λ n. record_head n ++ encode_row vs) e
 
-union_heads : (tag : ℕ) → HeadsUnion tag
+pub union_heads : (tag : ℕ) → HeadsUnion tag
 unfolding encode
 union_heads tag v = refl
 

@@ -8,7 +8,7 @@ use Rattle.stack.specs.Laying.{over}
 use Rattle.stack.specs.Undefs.{undefs}
 
 -- The bytes of an undef.
-abbrev undef_bytes : List ℕ
+abbrev pub undef_bytes : List ℕ
 undef_bytes = encode (error Undef)
 
 two_bytes : length undef_bytes ≡ 2
@@ -20,7 +20,7 @@ unfolding encode encodes
 undefs_long zero = refl
 undefs_long (suc n) = omega (arith, undefs_long n)
 
-undefs_none : encodes (undefs 0) ≡ []
+pub undefs_none : encodes (undefs 0) ≡ []
 unfolding encodes
 undefs_none = refl
 
@@ -29,11 +29,11 @@ unfolding encode encodes
 one_more zero = refl
 one_more (suc n) = ap (λ t. 0x52 ∷ 1 ∷ t) (one_more n)
 
-undefs_more : (n : ℕ) → encodes (undefs (n + 1)) ≡ encodes (undefs n) ++ undef_bytes
+pub undefs_more : (n : ℕ) → encodes (undefs (n + 1)) ≡ encodes (undefs n) ++ undef_bytes
 undefs_more n = ap (λ k. encodes (undefs k)) (let e : n + 1 ≡ suc n = omega arith in e) ∙ one_more n
 
 -- Bytes laid behind others that were laid are laid with them.
-over_over : (s xs ys : List ℕ) (top k : ℕ) → k ≡ top + length xs → k ≤ length s → over (over s top xs) k ys ≡ over s top (xs ++ ys)
+pub over_over : (s xs ys : List ℕ) (top k : ℕ) → k ≡ top + length xs → k ≤ length s → over (over s top xs) k ys ≡ over s top (xs ++ ys)
 over_over s xs ys top k e fits =
     let front : length (take top s ++ xs) ≡ k = length-append (take top s) xs ∙ ap (λ n. n + length xs) (length-take-le top s (omega arith)) ∙ sym e in
     let parts : over s top xs ≡ (take top s ++ xs) ++ drop (top + length xs) s = sym (append_assoc (take top s) xs (drop (top + length xs) s)) in

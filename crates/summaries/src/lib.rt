@@ -57,6 +57,7 @@ pub fn repeated_plus_backwards(readings: &[Integer]) -> Integer
 }
 
 // Whether two integers are one and the same; unlike VAL's =, this always answers. It is ==, with a clause that says so.
+#[tactic(auto, using(crate::proofs::Equality::same_if, crate::proofs::Equality::same_only))]
 pub fn same(j: Integer, k: Integer) -> bool
     ensures { IsTrue result ↔ (j ≡ k) }
 {
