@@ -17,7 +17,7 @@ Tally (Error NegOver) = Unit {0}
 Tally (Error Unknown) = Unit {0}
 Tally (Error ZeroDivide) = ⊥
 
--- No parts, of whatever number, have the tally miss_elt or zero_divide.
+-- No tally of parts is miss_elt or zero_divide.
 abbrev pub NoMissedTally : Definition Integer Integer Integer → Type 0
 NoMissedTally d = (n : ℕ) (t : Integer) → Sized d n t → Tally t
 

@@ -38,6 +38,6 @@ abbrev pub Tally : Boolean → Type 0
 Tally (Proper a) = Unit {0}
 Tally (Error f) = f ≡ Undef
 
--- No parts, of whatever number, have the tally miss_elt.
+-- No tally of parts is miss_elt.
 abbrev pub NoMissedTally : Definition Boolean Boolean Boolean → Type 0
 NoMissedTally d = (n : ℕ) (t : Boolean) → Sized d n t → Tally t

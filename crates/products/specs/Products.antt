@@ -39,6 +39,6 @@ product_of ps =
 abbrev pub TimesMultiplies : Type 0
 TimesMultiplies = (ps : List Integer) → meaning times ps ≡ product_of ps
 
--- No parts, of whatever number, have the tally miss_elt or zero_divide.
+-- No tally of parts is miss_elt or zero_divide.
 abbrev pub NoMissedTally : Type 0
 NoMissedTally = (n : ℕ) (t : Integer) → Sized times n t → Tally t

@@ -26,7 +26,7 @@ impl Operation for Times {
         Integer::judge(1)
     }
 
-    // As `times`: a call for each part would be half as much work again.
+    // Put in place of each call, as `times` is.
     #[inline(always)]
     fn combine(a: Integer, b: Integer) -> Integer {
         arithmetic::times(a, b)
